@@ -24,12 +24,13 @@ use Rattle.writer_state.specs.declared.sync_state.SyncState.{SyncState}
 use Rattle.writer_state.specs.declared.sync_state.SyncState.TheVariants.{Clean}
 use Rattle.paged_read.specs.Snapshots.{LeavesOthers}
 use Rattle.paged.specs.Caches.{tail_of}
-use Rattle.paged.specs.Calls.{PendingSyncFailed}
+use Rattle.paged.specs.Calls.{NoneRefused, PendingSyncFailed}
 use Rattle.paged.specs.Reads.{size_of}
 use Rattle.paged.specs.Ready.{IsReady}
 use Rattle.paged.specs.RecoveryCalls.{OwesRecovering}
 use Rattle.paged.specs.Recovers.{Recovers, IsRecovered}
 use Rattle.paged.specs.Truncate.{Truncates, KeepsFloorsWithin}
+use Rattle.paged.proofs.Causes.{none_refused_joins}
 use Rattle.items.specs.Items.{items, BringsItemsBack, BringsOnlyItems, AreDurable, AreFirst, AreOnly, KeepsItems}
 use Rattle.items.specs.State.{ItemsState}
 use Rattle.items.specs.Standing.{AreItems, ItemsCrashLeaves, ItemsRecoveryLeaves, items_content, items_of}
@@ -123,8 +124,8 @@ cut_leaves sum s n capacity cache between after old mid new w some is_image reco
 -- the items that were recovered
 pub recovered_items : (sum : List ℕ → ℕ) (s n capacity : ℕ) (cache after : CacheState) (old mid new : Life) (w v : WriterState) (now : ItemsState) → 0 < s → IsRecovered sum cache capacity old mid w → w.id ≡ cache.ids_given → n ≡ size_of w / s * s
     → now.writer ≡ v → now.size ≡ s → Truncates sum n w mid new (Ok v) → IsReady sum v after new → LeavesItsContent sum v new.present
-    → KeepsAll sum w.page_size (take n (content w mid.present.readable)) new → HaveRecovered sum s cache after old new now
-recovered_items sum s n capacity cache after old mid new w v now some recovered id is same_writer same_size cut is_ready only keeps =
+    → KeepsAll sum w.page_size (take n (content w mid.present.readable)) new → NoneRefused old.present mid.present → HaveRecovered sum s cache after old new now
+recovered_items sum s n capacity cache after old mid new w v now some recovered id is same_writer same_size cut is_ready only keeps served =
     let P = cache.page_size in
     let T = text sum P old.present.readable in
     let k = length T / s in
@@ -153,6 +154,7 @@ recovered_items sum s n capacity cache after old mid new w v now some recovered 
       holds = holds;
       same = ap (λ (l : List ℕ). items s l) holds ∙ items_whole s T some;
       durable = all_durable sum r after new (stand sum r after new stood) kept;
+      served = none_refused_joins old.present mid.present new.present served cut.served;
     } in
     let is_now : r ≡ now = sym (ap₂ (λ (x : WriterState) (i : ℕ). record { writer = x; size = i }) same_writer same_size) in
     subst (λ (t : ItemsState). HaveRecovered sum s cache after old new t) is_now found
@@ -171,19 +173,19 @@ not_pending : (s : SyncState) (d : Disk) → s ≡ Clean → PendingSyncFailed s
 not_pending s d is failed = subst (λ (t : SyncState). PendingSyncFailed t d) is failed
 
 -- the cut was refused
-pub cut_refused : (sum : List ℕ → ℕ) (n capacity : ℕ) (cache : CacheState) (old mid new : Life) (w : WriterState) (e : Error) → IsRecovered sum cache capacity old mid w → Truncates sum n w mid new (Err e) → Recovers sum cache capacity old new (Err e)
-cut_refused sum n capacity cache old mid new w ReadFailed recovered (cause, log) = failed_later ReadFailed old.present mid.present new.present recovered.log cause
-cut_refused sum n capacity cache old mid new w WriteFailed recovered (cause, log) = failed_later WriteFailed old.present mid.present new.present recovered.log cause
-cut_refused sum n capacity cache old mid new w ResizeFailed recovered (cause, log) = failed_later ResizeFailed old.present mid.present new.present recovered.log cause
-cut_refused sum n capacity cache old mid new w SyncFailed recovered (cause, log) = elim cause [
+pub cut_refused : (sum : List ℕ → ℕ) (n capacity : ℕ) (cache : CacheState) (old mid new : Life) (w : WriterState) (e : Error) → IsRecovered sum cache capacity old mid w → NoneRefused old.present mid.present → Truncates sum n w mid new (Err e) → Recovers sum cache capacity old new (Err e)
+cut_refused sum n capacity cache old mid new w ReadFailed recovered served (cause, log) = failed_later ReadFailed old.present mid.present new.present recovered.log cause
+cut_refused sum n capacity cache old mid new w WriteFailed recovered served (cause, log) = failed_later WriteFailed old.present mid.present new.present recovered.log cause
+cut_refused sum n capacity cache old mid new w ResizeFailed recovered served (cause, log) = failed_later ResizeFailed old.present mid.present new.present recovered.log cause
+cut_refused sum n capacity cache old mid new w SyncFailed recovered served (cause, log) = elim cause [
   | inl failed ↦ failed_later SyncFailed old.present mid.present new.present recovered.log failed
   | inr had ↦ absurd (not_pending w.sync mid.present recovered.settled.clean had)
 ]
-cut_refused sum n capacity cache old mid new w InvalidChecksum recovered ((less, page, unsound), log) = absurd (unsound recovered.sound)
-cut_refused sum n capacity cache old mid new w OutOfMemory recovered (cause, log) = tt
-cut_refused sum n capacity cache old mid new w BlobInsufficientLength recovered (cause, log) = absurd cause
-cut_refused sum n capacity cache old mid new w OffsetOverflow recovered (cause, log) = absurd cause
-cut_refused sum n capacity cache old mid new w IdsExhausted recovered (cause, log) = absurd cause
+cut_refused sum n capacity cache old mid new w InvalidChecksum recovered served ((less, page, unsound, none), log) = absurd (unsound recovered.sound)
+cut_refused sum n capacity cache old mid new w OutOfMemory recovered served (cause, log) = none_refused_joins old.present mid.present new.present served cause
+cut_refused sum n capacity cache old mid new w BlobInsufficientLength recovered served (cause, log) = absurd cause
+cut_refused sum n capacity cache old mid new w OffsetOverflow recovered served (cause, log) = absurd cause
+cut_refused sum n capacity cache old mid new w IdsExhausted recovered served (cause, log) = absurd cause
 
 -- a recovery, by its answer
 pub recovers_so : (sum : List ℕ → ℕ) (s : ℕ) (cache after : CacheState) (capacity : ℕ) (old new : Life) (now : ItemsState) → 0 < s → IsImage old.present old.present.readable → HaveRecovered sum s cache after old new now
@@ -219,7 +221,7 @@ brought_only sum s cache after capacity d image old new (Err e) is_image is reco
 pub crash_recovers : (sum : List ℕ → ℕ) (s : ℕ) (cache after : CacheState) (capacity : ℕ) (keep : List Bool) (old new : Life) (result : Result ItemsState Error) → RecoversItems sum s cache after capacity (begun (torn keep old.present.since old.present.base) old.present.log) new result
     → ItemsRecoveryLeaves sum s cache after (begun (torn keep old.present.since old.present.base) old.present.log) new → CrashesAndRecovers sum s cache after capacity keep old new result
 crash_recovers sum s cache after capacity keep old new (Ok r) recovers leaves = recovers
-crash_recovers sum s cache after capacity keep old new (Err OutOfMemory) recovers leaves = inr leaves
+crash_recovers sum s cache after capacity keep old new (Err OutOfMemory) recovers leaves = inr (leaves, recovers)
 crash_recovers sum s cache after capacity keep old new (Err ReadFailed) recovers leaves = recovers
 crash_recovers sum s cache after capacity keep old new (Err WriteFailed) recovers leaves = recovers
 crash_recovers sum s cache after capacity keep old new (Err ResizeFailed) recovers leaves = recovers

@@ -22,7 +22,7 @@ use Rattle.paged_read.specs.Batch.{ranges_of}
 use Rattle.paged_read.specs.Failures.{NoneFailed}
 use Rattle.paged_read.specs.Ranges.{served_ranges}
 use Rattle.paged_read.specs.Tail.{Tail}
-use Rattle.paged.specs.Calls.{IsSameWriter, CallCause}
+use Rattle.paged.specs.Calls.{IsSameWriter, CallCause, NoneRefused}
 use Rattle.paged.specs.Recovers.{Recovers}
 use Rattle.paged.specs.Writer.{physical_blob_size, FitsBlob}
 use Rattle.items.specs.Items.{items, item, AreDurable, BringsItemsBack, BringsOnlyItems}
@@ -189,6 +189,8 @@ pub record HaveRecovered (sum : List ℕ → ℕ) (s : ℕ) (cache after : Cache
       items_content now new ≡ take (length T / s * s) T
   pub same : items_of now new ≡ items s (text sum cache.page_size old.present.readable)
   pub durable : AllDurable sum now new
+  -- no device call failed
+  pub served : NoneRefused old.present new.present
 
 -- a recovery of items, whose errors are those of a recovery of the blob
 abbrev pub RecoversItems : (List ℕ → ℕ) → (s : ℕ) → (cache after : CacheState) → (capacity : ℕ)
@@ -210,7 +212,8 @@ pub record ItemsRecoverGoes (sum : List ℕ → ℕ) (s : ℕ) (cache after : Ca
       IfOk result (λ r. BringsOnlyItems sum cache.page_size s was was.readable (items_of r new))
 
 -- a blob in memory crashed and kept what the true flags name, and its items were recovered. At
--- OutOfMemory nothing changed, or the recovery of what the flags leave was refused
+-- OutOfMemory nothing changed, or the recovery of what the flags leave was refused, in which no
+-- device call failed
 abbrev pub CrashesAndRecovers : (List ℕ → ℕ) → (s : ℕ) → (cache after : CacheState)
     → (capacity : ℕ) → List Bool → Life → Life → Result ItemsState Error → Type 0
 CrashesAndRecovers sum s cache after capacity keep old new (Ok now) =
@@ -219,7 +222,8 @@ CrashesAndRecovers sum s cache after capacity keep old new (Ok now) =
 CrashesAndRecovers sum s cache after capacity keep old new (Err OutOfMemory) =
     let d = old.present in
     ((after ≡ cache) × (new ≡ old))
-    ⊎ ItemsRecoveryLeaves sum s cache after (begun (torn keep d.since d.base) d.log) new
+    ⊎ (ItemsRecoveryLeaves sum s cache after (begun (torn keep d.since d.base) d.log) new
+    × NoneRefused (begun (torn keep d.since d.base) d.log).present new.present)
 CrashesAndRecovers sum s cache after capacity keep old new (Err e) =
     let d = old.present in
     RecoversItems sum s cache after capacity (begun (torn keep d.since d.base) d.log) new (Err e)

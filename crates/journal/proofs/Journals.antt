@@ -20,13 +20,13 @@ use Rattle.crash.specs.Looks.{Looked, looked_start}
 use Rattle.writer_state.specs.Sound.{IsSound, LeavesItsContent, content}
 use Rattle.writer_state.specs.WriterState.{WriterState}
 use Rattle.crash.specs.Moments.{through_start, through_then, through_joins, through_end}
-use Rattle.paged_read.specs.Failures.{NoneFailed, none_failed_joins}
+use Rattle.paged_read.specs.Failures.{NoneFailed, none_failed_joins, none_failed_start}
 use Rattle.paged_read.specs.Hand.{HandState, kept_with}
 use Rattle.paged_read.specs.Snapshots.{LeavesOthers, LeavesReads}
 use Rattle.paged_read.specs.Tail.{CanRead}
 use Rattle.paged.specs.Caches.{tail_of, KeepsReads}
-use Rattle.paged.proofs.Causes.{none_refused_same}
-use Rattle.paged.specs.Calls.{BuffersOver, IsSameWriter, TryAppendGoes}
+use Rattle.paged.proofs.Causes.{none_refused_joins, none_refused_same}
+use Rattle.paged.specs.Calls.{BuffersOver, IsSameWriter, NoneRefused, TryAppendGoes}
 use Rattle.paged.specs.Goes.{AppendAnswers, AppendGoes, Holds, SyncAllGoes}
 use Rattle.paged.specs.Ready.{IsReady}
 use Rattle.paged.specs.Reads.{size_of}
@@ -389,6 +389,7 @@ trim_goes sum own w cache after end found old new now between given is cut ready
       given = given;
       page_size = cut.same.page_size;
       id = cut.same.id;
+      served = cut.served;
     }
 
 -- where all frames are whole nothing is to be cut
@@ -403,6 +404,7 @@ trim_stays sum own w cache end found life between given is all =
       given = given;
       page_size = refl;
       id = refl;
+      served = none_refused_same life life refl;
     }
 
 -- the cut was refused
@@ -415,7 +417,7 @@ trim_refused sum own w cache after end old new e between is more refused =
       | inl lt ↦ lt
       | inr le ↦ absurd (more (omega (arith, is, le, length-whole held, between.size)))
     ]) in
-    inr (old, looked_start old, less, subst (λ (n : ℕ). Truncates sum n w old new (Err e)) is refused)
+    inr (old, looked_start old, none_failed_start old.present, less, subst (λ (n : ℕ). Truncates sum n w old new (Err e)) is refused)
 
 -- where a floor is kept, any lower one is kept
 less_kept : (sum : List ℕ → ℕ) (P : ℕ) (content : List ℕ) (floor less : ℕ) (d : Disk) → less ≤ floor → AllKeep sum P content floor d → AllKeep sum P content less d
@@ -499,8 +501,8 @@ commits_through sum own P T old new through = through_then (AllKeep sum P T (len
 -- a recovery, from that of the blob and the rest
 pub recovery_goes : (sum own : List ℕ → ℕ) (cache after : CacheState) (capacity : ℕ) (old mid new : Life) (w now : WriterState) (found : List (List ℕ))
     → Recovers sum cache capacity old mid (Ok w) → w.id ≡ cache.ids_given → KeepsAll sum cache.page_size (text sum cache.page_size old.present.readable) mid
-    → KeepsFloorsWithin (length (whole_frames (text sum cache.page_size old.present.readable))) sum cache.page_size mid new → IsTrimmed sum own w after mid new now found → JournalHasRecovered sum own cache after old new now found
-recovery_goes sum own cache after capacity old mid new w now found recovers id all keeps trims =
+    → KeepsFloorsWithin (length (whole_frames (text sum cache.page_size old.present.readable))) sum cache.page_size mid new → IsTrimmed sum own w after mid new now found → NoneRefused old.present mid.present → JournalHasRecovered sum own cache after old new now found
+recovery_goes sum own cache after capacity old mid new w now found recovers id all keeps trims served =
     let P = cache.page_size in
     let T = text sum P old.present.readable in
     let whole = whole_frames T in
@@ -519,6 +521,7 @@ recovery_goes sum own cache after capacity old mid new w now found recovers id a
       given = given;
       same = given ∙ sym (ap (λ (l : List ℕ). records own l) holds ∙ records-whole own T);
       all = subst (λ (l : List ℕ). CommitsAll sum own P l new.present) (sym holds) (commits_all sum own P whole new.present kept);
+      served = none_refused_joins old.present mid.present new.present served trims.served;
     }
 
 -- a recovery of a journal where that of the blob was refused
@@ -529,10 +532,10 @@ recovery_unbegun sum own cache after capacity old new e (Err x) is recovers = in
 
 -- a recovery whose content wasn't trimmed
 pub recovery_refused : (sum own : List ℕ → ℕ) (cache after : CacheState) (capacity : ℕ) (old mid new : Life) (w : WriterState) (e : Error) (result : Result (WriterState × Vec (List ℕ) Global) Error) → IsErrAnd result (λ x. x ≡ e)
-    → Recovers sum cache capacity old mid (Ok w) → Trims sum own w after mid new (Err e) → RecoversJournal sum own cache after capacity old new result
-recovery_refused sum own cache after capacity old mid new w e (Ok r) is recovers trims = absurd is
-recovery_refused sum own cache after capacity old mid new w e (Err x) is recovers trims =
-    inr (mid, w, recovers, subst (λ (y : Error). Trims sum own w after mid new (Err y)) (sym is) trims)
+    → Recovers sum cache capacity old mid (Ok w) → NoneRefused old.present mid.present → Trims sum own w after mid new (Err e) → RecoversJournal sum own cache after capacity old new result
+recovery_refused sum own cache after capacity old mid new w e (Ok r) is recovers served trims = absurd is
+recovery_refused sum own cache after capacity old mid new w e (Err x) is recovers served trims =
+    inr (mid, w, recovers, served, subst (λ (y : Error). Trims sum own w after mid new (Err y)) (sym is) trims)
 
 -- a recovery of what a crash left
 pub brought_back : (sum own : List ℕ → ℕ) (cache after : CacheState) (capacity : ℕ) (d : Disk) (image : List ℕ) (old new : Life) (result : Result (WriterState × Vec (List ℕ) Global) Error) → IsImage d image

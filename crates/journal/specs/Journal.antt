@@ -24,7 +24,8 @@ use Rattle.writer_state.specs.declared.sync_state.SyncState.TheVariants.{Clean, 
 use Rattle.paged_read.specs.Failures.{NoneFailed}
 use Rattle.paged_read.specs.Snapshots.{LeavesOthers, LeavesTails}
 use Rattle.paged.specs.Ready.{IsReady}
-use Rattle.paged.specs.Calls.{IsSameWriter, CallCause, PendingSyncFailed, start_calls}
+use Rattle.paged.specs.Calls.{IsSameWriter, CallCause, NoneRefused, PendingSyncFailed}
+use Rattle.paged.specs.Calls.{start_calls}
 use Rattle.paged.specs.Calls.{waited_writer}
 use Rattle.paged.specs.Reads.{size_of}
 use Rattle.paged.specs.Recovery.{IsDurable}
@@ -312,6 +313,8 @@ pub record IsTrimmed (sum own : List ℕ → ℕ) (w : WriterState) (after : Cac
   pub given : found ≡ records own (content w old.present.readable)
   pub page_size : now.page_size ≡ w.page_size
   pub id : now.id ≡ w.id
+  -- no device call failed
+  pub served : NoneRefused old.present new.present
 
 -- a trim of a recovered content to its whole frames, by its answer: the records; or memory for them
 -- was refused, before anything was done, or the cut after the frames, if there is more
@@ -321,8 +324,8 @@ Trims sum own w after old new (Ok r) = IsTrimmed sum own w after old new r.0 r.1
 Trims sum own w after old new (Err e) =
     let whole = whole_frames (content w old.present.readable) in
     ((new ≡ old) × (e ≡ OutOfMemory))
-    ⊎ ((mid : Life) × Looked old mid × (length whole < size_of w)
-    × Truncates sum (length whole) w mid new (Err e))
+    ⊎ ((mid : Life) × Looked old mid × NoneFailed old.present mid.present
+    × (length whole < size_of w) × Truncates sum (length whole) w mid new (Err e))
 
 -- a journal was recovered, under the cache's next id: its content is the whole frames of the text
 -- that was readable; these are its records, and all of them are committed
@@ -336,6 +339,8 @@ pub record JournalHasRecovered (sum own : List ℕ → ℕ) (cache after : Cache
   pub given : found ≡ records own (text sum cache.page_size old.present.readable)
   pub same : found ≡ records own (content w new.present.readable)
   pub all : CommitsAll sum own cache.page_size (content w new.present.readable) new.present
+  -- no device call failed
+  pub served : NoneRefused old.present new.present
 
 -- a recovery of a journal: at an error the recovery of the blob was refused, or it answered Ok and
 -- the trim of the content was refused
@@ -346,7 +351,7 @@ RecoversJournal sum own cache after capacity old new (Ok r) =
 RecoversJournal sum own cache after capacity old new (Err e) =
     Recovers sum cache capacity old new (Err e)
     ⊎ ((mid : Life) × (w : WriterState) × Recovers sum cache capacity old mid (Ok w)
-    × Trims sum own w after mid new (Err e))
+    × NoneRefused old.present mid.present × Trims sum own w after mid new (Err e))
 
 -- what was committed at one moment still is at a later one
 abbrev pub StaysCommitted : (sum own : List ℕ → ℕ) → ℕ → Disk → Disk → Type 0

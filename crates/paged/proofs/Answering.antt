@@ -10,13 +10,14 @@ use Rattle.crash.specs.Below.{PagesStay}
 use Rattle.crash.specs.Started.{CoversThrough, StartsCanBeAwaited}
 use Rattle.writer_state.specs.WriterState.{WriterState}
 use Rattle.writer_state.specs.Sound.{IsConsistent, IsSound, content}
-use Rattle.writer_state.proofs.Soundness.{looked_consistent, sound_holds_together, sound_is_intact}
+use Rattle.writer_state.proofs.Soundness.{sound_holds_together, sound_is_intact}
 use Rattle.paged.specs.Writer.{physical_blob_size}
 use Rattle.paged.specs.Calls.{AppendsOver, Completes, CarriesOn, HoldsWithin, Fails, StartsOver, SyncsOver, WaitsOver, start_calls}
 use Rattle.paged.specs.Caches.{Caches, CachesTo, ReadsOn, tail_of}
 use Rattle.paged.specs.Flush.{with_value}
 use Rattle.paged.specs.Reads.{HasWriterPages, size_of}
-use Rattle.paged.specs.Recovery.{TailIsMended}
+use Rattle.paged.specs.Recovery.{IsAsOpened, TailIsMended}
+use Rattle.paged.specs.Truncate.{Truncates}
 use Rattle.paged.specs.RecoveryCalls.{IsNewWriter}
 use Rattle.cache.specs.Pages.{CachesOnly, IsFresh, IsTrueFor}
 use Rattle.paged_read.specs.Reads.{ReadLeaves}
@@ -61,10 +62,6 @@ ready_is_usable sum w cache life ready = record { consistent = sound_holds_toget
 pub usable_of : (sum : List ℕ → ℕ) (w : WriterState) (cache : CacheState) (life : Life) → CanGoOn sum w cache life → IsUsable sum w cache life
 usable_of sum w cache life (inl ready) = ready_is_usable sum w cache life ready
 usable_of sum w cache life (inr usable) = usable
-
-pub holds_of : (sum : List ℕ → ℕ) (w : WriterState) (d : Disk) → IsSound sum w d ⊎ IsConsistent sum w d → IsConsistent sum w d
-holds_of sum w d (inl sound) = sound_holds_together sum w d sound
-holds_of sum w d (inr holds) = holds
 
 -- the writer is usable again
 usable_after : {A : Type 0} (sum : List ℕ → ℕ) (writer : A → WriterState) (w : WriterState) (more bytes : List ℕ) (old new : Life) (cache after : CacheState) (a : A) → IsUsable sum w cache old
@@ -241,13 +238,22 @@ pub ready_cut : (sum : List ℕ → ℕ) (w : WriterState) (cache after : CacheS
 ready_cut sum w cache after old new (Ok v) ready sound reads fresh = ready_of sum v after new sound (reads ready.can) (fresh ready.can.given ready.fresh)
 ready_cut sum w cache after old new (Err e) ready sound reads fresh = tt
 
+-- and as it was opened, and usable if it could be read
+pub cut_as_opened : (sum : List ℕ → ℕ) (n : ℕ) (w : WriterState) (old new : Life) (result : Result WriterState Error) → Truncates sum n w old new result → IfOk result (λ v. IsConsistent sum v new.present) → IfOk result (λ v. IsAsOpened sum v new.present)
+cut_as_opened sum n w old new (Ok v) is holds = settled_as_opened sum v new.present holds is.settled
+cut_as_opened sum n w old new (Err e) is holds = tt
+
+pub cut_usable : (sum : List ℕ → ℕ) (w : WriterState) (cache after : CacheState) (old new : Life) (result : Result WriterState Error) → IfOk result (λ v. IsConsistent sum v new.present) → IfOk result (λ v. ReadsOn w v cache after old new)
+    → (w.id < cache.ids_given → IsFresh cache → IsFresh after) → CanRead (tail_of w) cache old.present → IsFresh cache → IfOk result (λ v. IsUsable sum v after new)
+cut_usable sum w cache after old new (Ok v) holds reads fresh can is = record { consistent = holds; can = reads can; fresh = fresh can.given is }
+cut_usable sum w cache after old new (Err e) holds reads fresh can is = tt
+
 -- a writer that is ready is still after a read
 pub ready_still : (sum : List ℕ → ℕ) (w : WriterState) (cache after : CacheState) (old new : Life) → ReadLeaves sum (tail_of w) cache after old new → IsReady sum w cache old → IsReady sum w after new
-ready_still sum w cache after old new leaves ready = ready_of sum w after new (leaves.writers w ready.sound).sound (leaves.can_read (tail_of w) ready.can) (leaves.fresh ready.fresh)
+ready_still sum w cache after old new leaves ready = ready_of sum w after new ((leaves.writers w (inl ready.sound)).sound ready.sound) (leaves.can_read (tail_of w) ready.can) (leaves.fresh ready.fresh)
 
 pub usable_still : (sum : List ℕ → ℕ) (w : WriterState) (cache after : CacheState) (old new : Life) → ReadLeaves sum (tail_of w) cache after old new → IsUsable sum w cache old → IsUsable sum w after new
-unfolding IsConsistent
-usable_still sum w cache after old new leaves usable = record { consistent = looked_consistent sum w old new usable.consistent leaves.looked; can = leaves.can_read (tail_of w) usable.can; fresh = leaves.fresh usable.fresh }
+usable_still sum w cache after old new leaves usable = record { consistent = (leaves.writers w (inr usable.consistent)).consistent; can = leaves.can_read (tail_of w) usable.can; fresh = leaves.fresh usable.fresh }
 
 -- a writer that is usable is still after a wait
 usable_waited : (sum : List ℕ → ℕ) (w now : WriterState) (cache : CacheState) (old new : Life) → WaitsOver sum w old new (Ok now) → IsUsable sum w cache old → IsUsable sum now cache new

@@ -4,12 +4,13 @@ use Rattle.writer_state.proofs.StartedLaws.{settles_same}
 use Rattle.std.specs.Prelude.{OnOk}
 use Rattle.disk.specs.declared.started_sync.StartedSync.{StartedSync}
 use Rattle.disk.specs.declared.started_sync.StartedSync.TheVariants.{Done, Named}
-use Rattle.disk.specs.Disk.{Life, Disk, Entry, Request, logged, disk_settled_to, StartSync, WriteAt, SyncAll, WaitSync, LogGrows, WriteGoes, SyncGoes, WaitGoes, StartGoes}
+use Rattle.disk.specs.Disk.{ReadAt, DeviceReadGoes, Life, Disk, Entry, Request, logged, disk_settled_to, StartSync, WriteAt, SyncAll, WaitSync, LogGrows, WriteGoes, SyncGoes, WaitGoes, StartGoes}
 use Rattle.disk.proofs.Logs.{failed_once, failed_later, failed_sooner, one_more, grows_same}
 use Rattle.disk.specs.declared.error.Error.{Error}
 use Rattle.disk.specs.declared.error.Error.TheVariants.{ReadFailed, WriteFailed, ResizeFailed, SyncFailed, InvalidChecksum, BlobInsufficientLength, OffsetOverflow, OutOfMemory, IdsExhausted}
 use Rattle.writer_state.specs.declared.sync_state.SyncState.{SyncState}
 use Rattle.writer_state.specs.declared.sync_state.SyncState.TheVariants.{Pending}
+use Rattle.paged_read.specs.Failures.{AreAnswered, NoneFailed}
 use Rattle.paged.specs.Calls.{AreGranted, AsksAtMost, CallCause, NoneRefused, PendingSyncFailed}
 
 -- where no device call was made, none was refused
@@ -35,6 +36,31 @@ none_refused_joins a b d first second = (
   second.1 ∙ ap (λ (l : List Entry). l ++ second.0) first.1 ∙ append_assoc a.log first.0 second.0,
   served_both first.0 second.0 first.2 second.2,
 )
+
+-- the log goes on where none was refused
+pub grows_of : (a b : Disk) → NoneRefused a b → LogGrows a b
+grows_of a b served = (served.0, served.1)
+
+-- calls of which none failed were all granted
+granted : (es : List Entry) → AreAnswered es → AreGranted es
+granted [] all = tt
+granted (e ∷ es) all = (inl all.0, granted es all.1)
+
+pub none_refused_answered : (a b : Disk) → NoneFailed a b → NoneRefused a b
+none_refused_answered a b none = (none.0, none.1, granted none.0 none.2)
+
+-- a write that ended well was answered
+pub write_served : (offset : ℕ) (bytes : List ℕ) (sync : Bool) (old new : Life) (u : Unit {0}) → WriteGoes offset bytes sync old new (Ok u) → NoneRefused old.present new.present
+write_served offset bytes false old new u (d, next, did) = none_refused_once (WriteAt offset (length bytes) false) old.present new.present (ap (λ l. l.present.log) next ∙ ap (λ e. e.log) did.rest)
+write_served offset bytes true old new u (d, next, did) = none_refused_once (WriteAt offset (length bytes) true) old.present new.present (ap (λ l. l.present.log) next ∙ ap (λ e. e.log) did.rest)
+
+-- and so was a sync
+pub sync_served : (old new : Life) (u : Unit {0}) → SyncGoes old new (Ok u) → NoneRefused old.present new.present
+sync_served old new u is = none_refused_once SyncAll old.present new.present (ap (λ l. l.present.log) is)
+
+-- and a read
+pub read_served : (offset len : ℕ) (old new : Life) (bytes : List ℕ) → DeviceReadGoes offset len old new (Ok bytes) → NoneRefused old.present new.present
+read_served offset len old new bytes goes = none_refused_once (ReadAt offset len) old.present new.present (ap (λ l. l.present.log) goes.2)
 
 -- a write answers an error for a failed device or for no memory, where its range fits
 pub write_cause : (s : SyncState) (offset : ℕ) (bytes : List ℕ) (sync : Bool) (old new : Life) (e : Error) → WriteGoes offset bytes sync old new (Err e) → (e ≡ OffsetOverflow → ⊥) → CallCause s old new e

@@ -17,7 +17,7 @@ use Rattle.writer_state.proofs.Examples.{at_rest, with_g}
 use Rattle.paged.specs.Writer.{physical_blob_size, FitsBlob}
 use Rattle.paged.specs.Flush.{full_in, rest_of, has_work, carried, after_flush, synced, offset_of, flush_bytes, rest_bytes, footers_of, with_footers, TellsFirst, TellsFirstPage}
 use Rattle.paged.specs.Recovery.{RecoveryCause}
-use Rattle.paged.specs.Calls.{AreGranted, IsSettled, TryAppendGoes, CallCause, SettlesBy, sync_calls, start_calls, started_already, waited_writer}
+use Rattle.paged.specs.Calls.{AreGranted, IsSettled, NoneRefused, TryAppendGoes, CallCause, SettlesBy, sync_calls, start_calls, started_already, waited_writer}
 use Rattle.paged.specs.Direct.{fill_of, goes_direct, IsDirect}
 use Rattle.paged_read.specs.Ranges.{page_at}
 use Rattle.paged.specs.Reads.{HasWriterPages, size_of}
@@ -123,6 +123,26 @@ no_cause (more, is, some) = elim (subst (λ entries. SomeFailed ReadFailed entri
 -- a call doesn't answer `SyncFailed` where a read failed
 pub no_other_cause : RecoveryCause old failed_read SyncFailed → ⊥
 no_other_cause (more, is, some) = elim (subst (λ entries. SomeFailed SyncFailed entries) (sym is) some) [ inl failed ↦ absurd (cc (failed.1)) | inr none ↦ none ]
+
+-- a read that was answered was granted
+pub none_was_refused : NoneRefused old.present (logged (ReadAt 0 16) false old.present)
+none_was_refused = (record { request = ReadAt 0 16; failed = false } ∷ [], refl, (inl refl, tt))
+
+-- a read that failed was refused
+pub one_was_refused : NoneRefused old.present failed_read.present → ⊥
+one_was_refused (more, is, all) = not_granted (subst (λ entries. AreGranted entries) (sym is) all)
+  where
+    not_granted : AreGranted (record { request = ReadAt 0 16; failed = true } ∷ []) → ⊥
+    not_granted (inl well, rest) = absurd (cc well)
+    not_granted (inr start, rest) = absurd (cc start)
+
+-- a recovery that read a page, and then got no memory, may say so
+pub a_recovery_without_memory : RecoveryCause old (next old (logged (ReadAt 0 16) false old.present)) OutOfMemory
+a_recovery_without_memory = none_was_refused
+
+-- a read that failed isn't told as a want of memory
+pub a_failed_read_is_no_want_of_memory : RecoveryCause old failed_read OutOfMemory → ⊥
+a_failed_read_is_no_want_of_memory none = one_was_refused none
 
 -- the log goes on over that read
 pub the_log_grows : LogGrows old.present failed_read.present

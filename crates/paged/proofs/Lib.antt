@@ -22,6 +22,7 @@ pub mod Mends
 pub mod EmptiedMoments
 pub mod QuietCuts
 pub mod Recovered
+pub mod Readiness
 pub mod Opened
 pub mod Trims
 pub mod RecoveryExamples

@@ -15,12 +15,14 @@ use Rattle.crash.proofs.FloorLaws.{ReadsImage, floors_joins}
 use Rattle.crash.proofs.LookLaws.{looked_readable}
 use Rattle.writer_state.specs.WriterState.{WriterState}
 use Rattle.paged.specs.declared.outlook.Outlook.{Outlook}
-use Rattle.paged.specs.Outlook.{IsOutlook}
+use Rattle.paged.specs.Outlook.{LookGoes, IsOutlook}
 use Rattle.paged.specs.Recovers.{IsRecovered, Recovers, recovered_writer, recovered_bytes}
 use Rattle.paged.specs.Within.{PutsAtStake, MayGo, at_stake}
 use Rattle.paged.proofs.Recoveries.{cause_later}
 use Rattle.paged.proofs.Recovered.{looked_durable}
 use Rattle.paged.proofs.Trims.{Owes, looked_owe, keeps_text}
+use Rattle.paged.specs.Calls.{NoneRefused}
+use Rattle.paged.proofs.Causes.{none_refused_answered, none_refused_joins}
 
 -- a recovery that asked for nothing
 pub none_owe : (sum : List ℕ → ℕ) (P : ℕ) (life : Life) → 0 < P → ReadsImage life → Owes sum P life life
@@ -39,7 +41,7 @@ owe_after sum P old mid new some image looked owes =
           (subst (λ (l : List ℕ). LeavesOnly sum P l l mid new) same (owes.only (looked_durable old mid looked durable)));
     }
 
-module _ (sum : List ℕ → ℕ) (cache : CacheState) (capacity : ℕ) (old mid new : Life) (looked : Looked old mid) where
+module _ (sum : List ℕ → ℕ) (cache : CacheState) (capacity : ℕ) (old mid new : Life) (looked : Looked old mid) (served : NoneRefused old.present mid.present) where
   same : mid.present.readable ≡ old.present.readable
   same = looked_readable old mid looked
 
@@ -61,15 +63,15 @@ module _ (sum : List ℕ → ℕ) (cache : CacheState) (capacity : ℕ) (old mid
   -- known to fit
   pub recovers_after : (result : Result WriterState Error) → adjusted capacity cache.page_size < 2 ^ 64 → Recovers sum cache capacity mid new result → Recovers sum cache capacity old new result
   recovers_after (Ok w) fits is = recovered_after w is
-  recovers_after (Err ReadFailed) fits cause = cause_later old mid new ReadFailed looked.log cause
-  recovers_after (Err WriteFailed) fits cause = cause_later old mid new WriteFailed looked.log cause
-  recovers_after (Err ResizeFailed) fits cause = cause_later old mid new ResizeFailed looked.log cause
-  recovers_after (Err SyncFailed) fits cause = cause_later old mid new SyncFailed looked.log cause
+  recovers_after (Err ReadFailed) fits cause = cause_later old mid new ReadFailed served cause
+  recovers_after (Err WriteFailed) fits cause = cause_later old mid new WriteFailed served cause
+  recovers_after (Err ResizeFailed) fits cause = cause_later old mid new ResizeFailed served cause
+  recovers_after (Err SyncFailed) fits cause = cause_later old mid new SyncFailed served cause
   recovers_after (Err InvalidChecksum) fits cause = cause
   recovers_after (Err BlobInsufficientLength) fits cause = cause
   recovers_after (Err OffsetOverflow) fits cause = absurd (omega (arith, fits, cause.1))
-  recovers_after (Err OutOfMemory) fits cause = tt
-  recovers_after (Err IdsExhausted) fits cause = cause
+  recovers_after (Err OutOfMemory) fits cause = none_refused_joins old.present mid.present new.present served cause
+  recovers_after (Err IdsExhausted) fits cause = (cause.0, none_refused_joins old.present mid.present new.present served cause.1)
 
 -- a look answered how many bytes go
 pub would_cut : (sum : List ℕ → ℕ) (P Q stake : ℕ) (bytes : List ℕ) (outlook : Outlook) → Q ≡ P → IsOutlook sum Q bytes outlook → stake ≡ at_stake sum Q bytes outlook → PutsAtStake sum P bytes stake
@@ -80,3 +82,15 @@ would_cut sum P Q stake bytes outlook same is goes =
 pub may_cut : (sum : List ℕ → ℕ) (P Q allowed stake : ℕ) (bytes : List ℕ) (outlook : Outlook) → Q ≡ P → IsOutlook sum Q bytes outlook → stake ≡ at_stake sum Q bytes outlook → stake ≤ allowed → MayGo sum P allowed bytes
 may_cut sum P Q allowed stake bytes outlook same is goes few =
     (stake, would_cut sum P Q stake bytes outlook same is goes, few)
+
+-- a look that failed is a recovery that failed
+pub look_recovers : (sum : List ℕ → ℕ) (cache : CacheState) (capacity P : ℕ) (old new : Life) (e : Error) → LookGoes sum P old new (Err e) → Recovers sum cache capacity old new (Err e)
+look_recovers sum cache capacity P old new ReadFailed looks = looks
+look_recovers sum cache capacity P old new OutOfMemory looks = none_refused_answered old.present new.present looks
+look_recovers sum cache capacity P old new WriteFailed looks = absurd looks
+look_recovers sum cache capacity P old new ResizeFailed looks = absurd looks
+look_recovers sum cache capacity P old new SyncFailed looks = absurd looks
+look_recovers sum cache capacity P old new InvalidChecksum looks = absurd looks
+look_recovers sum cache capacity P old new BlobInsufficientLength looks = absurd looks
+look_recovers sum cache capacity P old new OffsetOverflow looks = absurd looks
+look_recovers sum cache capacity P old new IdsExhausted looks = absurd looks

@@ -16,13 +16,13 @@ use Rattle.crash.specs.Looks.{Looked}
 use Rattle.crash.specs.Shrink.{slot_write}
 use Rattle.crash.proofs.LookLaws.{looked_readable}
 use Rattle.crash.proofs.PageFacts.{slot_offset_le}
-use Rattle.paged.specs.Calls.{CallCause}
+use Rattle.paged.specs.Calls.{NoneRefused, CallCause}
 use Rattle.paged.specs.Mends.{Empties, CutsAndMends, Mends, is_unsynced, mended_state}
 use Rattle.paged_read.specs.declared.prefix.Prefix.{Prefix}
 use Rattle.paged_read.specs.Prefix.{bad_in, last_prefix, prefix_pages}
 use Rattle.paged.specs.Recovery.{CutsBack, IsCutBack, IsDurable, RecoveryCause, emptied, opened_bytes, opened_prefix, opened_size}
 use Rattle.paged.specs.Recovery.IsCutBack.{whole, cut}
-use Rattle.paged.proofs.Causes.{no_overflow, write_cause, write_grows}
+use Rattle.paged.proofs.Causes.{write_served, none_refused_joins, no_overflow, write_cause, write_grows}
 use Rattle.paged.proofs.Emptied.{opened_changed, opened_there}
 use Rattle.paged.proofs.Recoveries.{back_cause, cause_later, kept_back, opened_is, opened_kept, opened_size_le, sync_cause, sync_done}
 
@@ -37,7 +37,7 @@ call_cause old new SyncFailed cause = elim cause [ inl failed ↦ failed | inr h
 call_cause old new InvalidChecksum cause = absurd cause
 call_cause old new BlobInsufficientLength cause = absurd cause
 call_cause old new OffsetOverflow cause = absurd cause
-call_cause old new OutOfMemory cause = tt
+call_cause old new OutOfMemory cause = cause
 call_cause old new IdsExhausted cause = absurd cause
 
 write_fault : (offset : ℕ) (bytes : List ℕ) (sync : Bool) (old new : Life) (e : Error) → offset + length bytes < 2 ^ 64 → WriteGoes offset bytes sync old new (Err e) → RecoveryCause old new e
@@ -66,20 +66,20 @@ module _ (P page : ℕ) (s : Slot) where
   pub empties_cause : (unsynced : Bool) (old new : Life) (e : Error) → (page + 1) * (P + 12) < 2 ^ 64 → Empties P page s unsynced old new (Err e) → RecoveryCause old new e
   empties_cause false old new e fits goes = write_fault offset (slot_bytes 0 0) true old new e (omega (arith, fits, six, slot_offset_le s)) goes
   empties_cause true old new e fits (inl first) = write_fault offset (slot_bytes 0 0) false old new e (omega (arith, fits, six, slot_offset_le s)) first
-  empties_cause true old new e fits (inr (mid, first, second)) = cause_later old mid new e (write_grows offset (slot_bytes 0 0) false old mid (Ok tt) first) (sync_cause mid new e second)
+  empties_cause true old new e fits (inr (mid, first, second)) = cause_later old mid new e (write_served offset (slot_bytes 0 0) false old mid tt first) (sync_cause mid new e second)
 
   pub empties_done : (unsynced : Bool) (old new : Life) → Empties P page s unsynced old new (Ok tt)
-      → (new.present.readable ≡ applied (slot_write P page s (slot_bytes 0 0)) old.present.readable) × IsDurable new.present × LogGrows old.present new.present
+      → (new.present.readable ≡ applied (slot_write P page s (slot_bytes 0 0)) old.present.readable) × IsDurable new.present × NoneRefused old.present new.present
   empties_done false old new goes = (
     write_done offset (slot_bytes 0 0) true old new goes,
     write_durable offset (slot_bytes 0 0) old new goes,
-    write_grows offset (slot_bytes 0 0) true old new (Ok tt) goes,
+    write_served offset (slot_bytes 0 0) true old new tt goes,
   )
   empties_done true old new (mid, first, second) =
       let done = sync_done mid new second in (
         done.0 ∙ write_done offset (slot_bytes 0 0) false old mid first,
         done.1,
-        grows_joins old.present mid.present new.present (write_grows offset (slot_bytes 0 0) false old mid (Ok tt) first) done.2,
+        none_refused_joins old.present mid.present new.present (write_served offset (slot_bytes 0 0) false old mid tt first) done.2,
       )
 
 -- ---- after a search back and a cut
@@ -88,7 +88,7 @@ module _ (P page : ℕ) (s : Slot) where
 abbrev pub TrimsTo : (P kept page : ℕ) → Option Slot → Life → Life → Type 0
 TrimsTo P kept page bad old new = (mid : Life) × Looked old mid × ((new ≡ mid) ⊎ ((answer : Result SyncState Error) × CutsAndMends P kept page bad mid new answer))
 
-module _ (P kept page : ℕ) (bad : Option Slot) (old mid new : Life) (looked : Looked old mid) (le : kept ≤ length old.present.readable) where
+module _ (P kept page : ℕ) (bad : Option Slot) (old mid new : Life) (looked : Looked old mid) (served : NoneRefused old.present mid.present) (le : kept ≤ length old.present.readable) where
   -- what is kept is readable
   cut_readable : (s : SyncState) (last : Life) → IsCutBack old last (take kept old.present.readable) s → last.present.readable ≡ take kept old.present.readable
   cut_readable s last (whole all seen) = looked_readable old last seen ∙ sym all
@@ -96,33 +96,33 @@ module _ (P kept page : ℕ) (bad : Option Slot) (old mid new : Life) (looked : 
 
   -- the pages that are kept, where that is done
   pub pages_kept : (s : SyncState) → ((t : Slot) → bad ≡ Some t → emptied P page bad (take kept old.present.readable) ≢ old.present.readable) → CutsAndMends P kept page bad mid new (Ok s)
-      → IsCutBack old new (emptied P page bad (take kept old.present.readable)) s × LogGrows old.present new.present
+      → IsCutBack old new (emptied P page bad (take kept old.present.readable)) s × NoneRefused old.present new.present
   pages_kept s changed (state, last, cuts, mends, is) = by_bad bad changed mends is
     where
-      back : IsCutBack old last (take kept old.present.readable) state × LogGrows old.present last.present
-      back = kept_back kept old mid last state looked le cuts
+      back : IsCutBack old last (take kept old.present.readable) state × NoneRefused old.present last.present
+      back = kept_back kept old mid last state looked served le cuts
 
       by_bad : (b : Option Slot) → ((t : Slot) → b ≡ Some t → emptied P page b (take kept old.present.readable) ≢ old.present.readable) → Mends P page b (is_unsynced state) last new (Ok tt) → s ≡ mended_state b state
-          → IsCutBack old new (emptied P page b (take kept old.present.readable)) s × LogGrows old.present new.present
+          → IsCutBack old new (emptied P page b (take kept old.present.readable)) s × NoneRefused old.present new.present
       by_bad None changed mends is = (
         subst (λ (l : Life). IsCutBack old l (take kept old.present.readable) s) (sym mends.1) (subst (λ (t : SyncState). IsCutBack old last (take kept old.present.readable) t) (sym is) back.0),
-        subst (λ (l : Life). LogGrows old.present l.present) (sym mends.1) back.1,
+        subst (λ (l : Life). NoneRefused old.present l.present) (sym mends.1) back.1,
       )
       by_bad (Some t) changed mends is =
           let done = empties_done P page t (is_unsynced state) last new mends in (
             subst (λ (r : SyncState). IsCutBack old new (emptied P page (Some t) (take kept old.present.readable)) r) (sym is)
                 (cut (changed t refl) (done.0 ∙ ap (λ (l : List ℕ). applied (slot_write P page t (slot_bytes 0 0)) l) (cut_readable state last back.0)) done.1),
-            grows_joins old.present last.present new.present back.1 done.2,
+            none_refused_joins old.present last.present new.present back.1 done.2,
           )
 
   -- why that isn't done
   pub pages_cause : (e : Error) → ((t : Slot) → bad ≡ Some t → (page + 1) * (P + 12) < 2 ^ 64) → CutsAndMends P kept page bad mid new (Err e) → RecoveryCause old new e
-  pages_cause e fits (inl cuts) = back_cause kept old mid new e looked le cuts
+  pages_cause e fits (inl cuts) = back_cause kept old mid new e looked served le cuts
   pages_cause e fits (inr (state, last, cuts, mends)) = by_bad bad fits mends
     where
       by_bad : (b : Option Slot) → ((t : Slot) → b ≡ Some t → (page + 1) * (P + 12) < 2 ^ 64) → Mends P page b (is_unsynced state) last new (Err e) → RecoveryCause old new e
       by_bad None fits mends = absurd (cc (mends.0))
-      by_bad (Some t) fits mends = cause_later old last new e (kept_back kept old mid last state looked le cuts).1 (empties_cause P page t (is_unsynced state) last new e (fits t refl) mends)
+      by_bad (Some t) fits mends = cause_later old last new e (kept_back kept old mid last state looked served le cuts).1 (empties_cause P page t (is_unsynced state) last new e (fits t refl) mends)
 
 -- ---- as code calls it
 
@@ -173,7 +173,7 @@ module _ (sum : List ℕ → ℕ) (P Q size physical : ℕ) (readable : List ℕ
       let there : (opened.full_pages + 1) * (P + 12) ≤ length readable = opened_there sum P readable t (sym bad_found ∙ bad) in
       omega (arith, ap (λ (x : Prefix). (x.full_pages + 1) * (Q + 12)) found_is, ap (λ (n : ℕ). (opened.full_pages + 1) * (n + 12)) same, there, length_is, small)
 
-  module _ (old mid new : Life) (looked : Looked old mid) (old_is : old.present.readable ≡ readable) (count kept : ℕ) (counted : count ≡ prefix_pages p) (kept_is : kept ≡ count * physical) where
+  module _ (old mid new : Life) (looked : Looked old mid) (served : NoneRefused old.present mid.present) (old_is : old.present.readable ≡ readable) (count kept : ℕ) (counted : count ≡ prefix_pages p) (kept_is : kept ≡ count * physical) where
     abbrev KeepsOpened : Result SyncState Error → Type 0
     KeepsOpened answer = CutsAndMends P (opened_size sum P readable) opened.full_pages (bad_in sum P readable opened) mid new answer
 
@@ -193,13 +193,13 @@ module _ (sum : List ℕ → ℕ) (P Q size physical : ℕ) (readable : List ℕ
 
     pub opened_cause : (e : Error) → size < 2 ^ 64 → CutsAndMends Q kept p.full_pages bad mid new (Err e) → RecoveryCause old new e
     opened_cause e small keeps =
-        pages_cause P (opened_size sum P readable) opened.full_pages (bad_in sum P readable opened) old mid new looked within e
+        pages_cause P (opened_size sum P readable) opened.full_pages (bad_in sum P readable opened) old mid new looked served within e
         (λ t is. omega (arith, opened_there sum P readable t is, length_is, small)) (opened_keeps (Err e) keeps)
 
-    pub opened_back : (s : SyncState) → CutsAndMends Q kept p.full_pages bad mid new (Ok s) → IsCutBack old new (opened_bytes sum P old.present.readable) s × LogGrows old.present new.present
+    pub opened_back : (s : SyncState) → CutsAndMends Q kept p.full_pages bad mid new (Ok s) → IsCutBack old new (opened_bytes sum P old.present.readable) s × NoneRefused old.present new.present
     opened_back s keeps =
-        subst (λ (l : List ℕ). IsCutBack old new (opened_bytes sum P l) s × LogGrows old.present new.present) (sym old_is)
-        (subst (λ (l : List ℕ). IsCutBack old new (emptied P opened.full_pages (bad_in sum P readable opened) (take (opened_size sum P readable) l)) s × LogGrows old.present new.present) old_is
-        (pages_kept P (opened_size sum P readable) opened.full_pages (bad_in sum P readable opened) old mid new looked within s
+        subst (λ (l : List ℕ). IsCutBack old new (opened_bytes sum P l) s × NoneRefused old.present new.present) (sym old_is)
+        (subst (λ (l : List ℕ). IsCutBack old new (emptied P opened.full_pages (bad_in sum P readable opened) (take (opened_size sum P readable) l)) s × NoneRefused old.present new.present) old_is
+        (pages_kept P (opened_size sum P readable) opened.full_pages (bad_in sum P readable opened) old mid new looked served within s
         (λ t is same_bytes. opened_changed sum P readable t is (ap (λ (l : List ℕ). emptied P opened.full_pages (bad_in sum P readable opened) (take (opened_size sum P readable) l)) (sym old_is) ∙ same_bytes ∙ old_is))
         (opened_keeps (Ok s) keeps)))

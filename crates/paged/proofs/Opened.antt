@@ -28,7 +28,7 @@ use Rattle.cache.specs.Pages.{IsFresh}
 use Rattle.paged.specs.Caches.{tail_of}
 use Rattle.paged.specs.Ready.{IsUsable}
 use Rattle.paged.specs.Reads.{HasWriterPages}
-use Rattle.paged.specs.Calls.{WaitsForNone}
+use Rattle.paged.specs.Calls.{NoneRefused, WaitsForNone}
 use Rattle.paged.specs.Recovery.{BesideIsMended, IsCutBack, IsDurable, GivesWriter, SoundWhereFull, IsAsOpened, IsOpened, Opens, TailIsMended, opened_bytes, opened_prefix, opened_size, slot_of_tip, at_prefix}
 use Rattle.paged.specs.Recovery.IsCutBack.{whole, cut}
 use Rattle.paged_read.proofs.Prefixes.{last_is}
@@ -36,6 +36,7 @@ use Rattle.paged.proofs.Emptied.{length-opened, opened_beside, opened_full, open
 use Rattle.paged.proofs.Firsts.{After, told_len}
 use Rattle.paged.proofs.Standing.{stands_after, page_after}
 use Rattle.paged.proofs.Recovered.{kept_readable, kept_durable, opened_stays_durable, opened_readable, opened_length, opened_page_size}
+use Rattle.paged.proofs.Causes.{grows_of}
 
 -- ---- where a writer is sound
 
@@ -138,7 +139,7 @@ module _ (sum : List ℕ → ℕ) (P : ℕ) (old new : Life) (s : SyncState) (ke
 -- a writer stands after what was kept, or has no id
 pub opens_end : (sum : List ℕ → ℕ) (cache : CacheState) (capacity : ℕ) (old new : Life) (s : SyncState) (room : ℕ) (p : Prefix) (answer : Result WriterState Error) → AreCovered new.present → IsSmall sum → 0 < cache.page_size → cache.page_size < 2 ^ 16
     → room ≡ adjusted capacity cache.page_size → p ≡ opened_prefix sum cache.page_size old.present.readable
-    → HasBytes cache.page_size p.full_pages old.present.readable p.partial → IsCutBack old new (opened_bytes sum cache.page_size old.present.readable) s × LogGrows old.present new.present
+    → HasBytes cache.page_size p.full_pages old.present.readable p.partial → IsCutBack old new (opened_bytes sum cache.page_size old.present.readable) s × NoneRefused old.present new.present
     → GivesWriter cache room p s answer → Opens sum cache capacity old new answer
 opens_end sum cache capacity old new s room p (Ok w) covered small_sum positive small room_is is bytes kept stands =
     let P = cache.page_size in
@@ -153,7 +154,8 @@ opens_end sum cache capacity old new s room p (Ok w) covered small_sum positive 
       bytes = subst (λ (n : ℕ). HasBytes P n old.present.readable q.partial) (sym (ap (λ (x : WriterState). x.full_pages) state)) has;
       sound = subst (λ (x : WriterState). SoundWhereFull sum P old new x) (sym state) (opened_sound sum P old new s kept.0 covered cache.ids_given (adjusted capacity P) small_sum positive small has);
       consistent = λ durable. subst (λ (x : WriterState). IsConsistent sum x new.present) (sym state) (opened_consistent sum P old new s kept.0 covered cache.ids_given (adjusted capacity P) small_sum positive small has durable);
-      log = kept.1;
+      log = grows_of old.present new.present kept.1;
+      served = kept.1;
     }
 opens_end sum cache capacity old new s room p (Err ReadFailed) covered small_sum positive small room_is is bytes kept stands = absurd stands
 opens_end sum cache capacity old new s room p (Err WriteFailed) covered small_sum positive small room_is is bytes kept stands = absurd stands
@@ -162,8 +164,8 @@ opens_end sum cache capacity old new s room p (Err SyncFailed) covered small_sum
 opens_end sum cache capacity old new s room p (Err InvalidChecksum) covered small_sum positive small room_is is bytes kept stands = absurd stands
 opens_end sum cache capacity old new s room p (Err BlobInsufficientLength) covered small_sum positive small room_is is bytes kept stands = absurd stands
 opens_end sum cache capacity old new s room p (Err OffsetOverflow) covered small_sum positive small room_is is bytes kept stands = absurd stands
-opens_end sum cache capacity old new s room p (Err OutOfMemory) covered small_sum positive small room_is is bytes kept stands = tt
-opens_end sum cache capacity old new s room p (Err IdsExhausted) covered small_sum positive small room_is is bytes kept stands = (stands, s, kept.0)
+opens_end sum cache capacity old new s room p (Err OutOfMemory) covered small_sum positive small room_is is bytes kept stands = kept.1
+opens_end sum cache capacity old new s room p (Err IdsExhausted) covered small_sum positive small room_is is bytes kept stands = (stands, s, kept.0, kept.1)
 
 -- ---- what holds of the writer that opening gives
 

@@ -34,7 +34,7 @@ use Rattle.paged_read.specs.Ranges.{page_at}
 use Rattle.paged_read.specs.Prefix.{prefix_of, prefix_pages, prefix_size, partial_pages, tip_of}
 use Rattle.paged_read.specs.Scans.{text_of_first}
 use Rattle.paged.specs.Reads.{size_of}
-use Rattle.paged.specs.Calls.{WaitsForNone, PendingSyncFailed}
+use Rattle.paged.specs.Calls.{NoneRefused, WaitsForNone, PendingSyncFailed}
 use Rattle.paged.specs.Truncate.{IsCut, IsTruncated, SoundAndKept, TruncateCause, Truncates, cut_writer, cut_bytes, shortened_writer}
 use Rattle.paged.specs.Recovers.{IsRecovered, Recovers}
 use Rattle.paged.specs.Recovery.{RecoveryCause, IsDurable, IsCutBack, IsOpened, IsAsOpened, slot_pages, opened_prefix, opened_size, opened_bytes, opened_writer, slot_of_tip}
@@ -45,6 +45,7 @@ use Rattle.paged.proofs.Emptied.{length-opened, opened_says}
 use Rattle.paged.proofs.Firsts.{After, AreLong, prefix_is, prefix_size_is, text_begins}
 use Rattle.paged.proofs.Flushes.{size_is_length}
 use Rattle.paged.proofs.Recoveries.{cause_later}
+use Rattle.paged.proofs.Causes.{none_refused_joins}
 
 -- what opening keeps is readable
 pub kept_readable : (old new : Life) (bytes : List ℕ) (s : SyncState) → IsCutBack old new bytes s → new.present.readable ≡ bytes
@@ -263,7 +264,7 @@ cut_cause sum n w old new SyncFailed some none is cause = elim cause [
 cut_cause sum n w old new InvalidChecksum some none is cause = absurd (omega (arith, cause.1, tells_enough sum w.page_size n old.present.readable some is))
 cut_cause sum n w old new BlobInsufficientLength some none is cause = cause
 cut_cause sum n w old new OffsetOverflow some none is cause = cause
-cut_cause sum n w old new OutOfMemory some none is cause = tt
+cut_cause sum n w old new OutOfMemory some none is cause = cause
 cut_cause sum n w old new IdsExhausted some none is cause = cause
 
 module _ (sum : List ℕ → ℕ) (cache : CacheState) (capacity : ℕ) (old new : Life) where
@@ -275,12 +276,12 @@ module _ (sum : List ℕ → ℕ) (cache : CacheState) (capacity : ℕ) (old new
   recovers_cause InvalidChecksum cause = cause
   recovers_cause BlobInsufficientLength cause = cause
   recovers_cause OffsetOverflow cause = absurd cause
-  recovers_cause OutOfMemory cause = tt
+  recovers_cause OutOfMemory cause = cause
   recovers_cause IdsExhausted cause = absurd cause
 
   -- the search forward isn't answered
-  pub recovers_unfound : (mid : Life) (e : Error) → LogGrows old.present mid.present → RecoveryCause mid new e → Recovers sum cache capacity old new (Err e)
-  recovers_unfound mid e grows cause = recovers_cause e (cause_later old mid new e grows cause)
+  pub recovers_unfound : (mid : Life) (e : Error) → NoneRefused old.present mid.present → RecoveryCause mid new e → Recovers sum cache capacity old new (Err e)
+  recovers_unfound mid e served cause = recovers_cause e (cause_later old mid new e served cause)
 
 -- ---- how it ends
 
@@ -290,6 +291,7 @@ pub record CutToText (sum : List ℕ → ℕ) (cache : CacheState) (capacity n :
   pub opened : IsOpened sum cache capacity old mid w
   pub as_opened : IsAsOpened sum w mid.present
   pub looked : Looked mid scanned
+  pub served : NoneRefused mid.present scanned.present
   pub text : n ≡ length (text sum cache.page_size mid.present.readable)
 
 module _ (sum : List ℕ → ℕ) (cache : CacheState) (capacity n : ℕ) (old mid scanned : Life) (w : WriterState) (cuts : CutToText sum cache capacity n old mid scanned w) where
@@ -319,6 +321,9 @@ module _ (sum : List ℕ → ℕ) (cache : CacheState) (capacity n : ℕ) (old m
 
   scanned_log : LogGrows old.present scanned.present
   scanned_log = grows_joins old.present mid.present scanned.present cuts.opened.log cuts.looked.log
+
+  scanned_served : NoneRefused old.present scanned.present
+  scanned_served = none_refused_joins old.present mid.present scanned.present cuts.opened.served cuts.served
 
   -- the writer is as opening left it
   pub scanned_as_opened : IsAsOpened sum w scanned.present
@@ -378,7 +383,12 @@ module _ (sum : List ℕ → ℕ) (cache : CacheState) (capacity n : ℕ) (old m
     pub recovers_end : (answer : Result WriterState Error) → Truncates sum n w scanned new answer → IfOk answer (IsCut sum n w scanned new) → IfOk answer (SoundAndKept sum n w scanned new) → Recovers sum cache capacity old new answer
     recovers_end (Ok now) is exact kept = recovered new now is kept exact
     recovers_end (Err e) is exact kept =
-        recovers_cause sum cache capacity old new e (cause_later old scanned new e scanned_log (cut_cause sum n w scanned new e scanned_some scanned_as_opened.waits scanned_length is.0))
+        recovers_cause sum cache capacity old new e (cause_later old scanned new e scanned_served (cut_cause sum n w scanned new e scanned_some scanned_as_opened.waits scanned_length is.0))
+
+    -- no device call failed
+    pub recovers_served : (answer : Result WriterState Error) → Truncates sum n w scanned new answer → OnOk answer (NoneRefused old.present new.present)
+    recovers_served (Ok now) is = none_refused_joins old.present scanned.present new.present scanned_served is.served
+    recovers_served (Err e) is = tt
 
     pub recovers_keep : (answer : Result WriterState Error) → Truncates sum n w scanned new answer → IfOk answer (SoundAndKept sum n w scanned new) → OnOk answer (KeepsAll sum cache.page_size (text sum cache.page_size old.present.readable) new)
     recovers_keep (Ok now) is kept = recovered_keeps new now is kept

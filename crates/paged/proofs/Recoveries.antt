@@ -23,15 +23,17 @@ use Rattle.paged.specs.Recovery.IsCutBack.{whole, cut}
 use Rattle.paged_read.proofs.Prefixes.{IsLast, last_is}
 use Rattle.disk.proofs.Logs.{grows_once, grows_joins, failed_once, failed_later}
 use Rattle.crash.proofs.LookLaws.{looked_readable}
+use Rattle.paged.specs.Calls.{NoneRefused}
+use Rattle.paged.proofs.Causes.{grows_of, none_refused_answered, none_refused_joins, none_refused_once, none_refused_same}
 
 -- ---- the device's calls
 
 -- a resize that cuts, done
-pub resize_done : (kept : ℕ) (old new : Life) → kept ≤ length old.present.readable → ResizeGoes kept old new (Ok tt) → (new.present.readable ≡ take kept old.present.readable) × LogGrows old.present new.present
+pub resize_done : (kept : ℕ) (old new : Life) → kept ≤ length old.present.readable → ResizeGoes kept old new (Ok tt) → (new.present.readable ≡ take kept old.present.readable) × NoneRefused old.present new.present
 resize_done kept old new le goes =
     let now : new.present ≡ goes.0 = ap (λ (l : Life). l.present) goes.1 in (
       ap (λ (d : Disk). d.readable) now ∙ goes.2.done refl ∙ cut_is kept old.present.readable le,
-      grows_once (ResizeTo kept) false old.present new.present (ap (λ (d : Disk). d.log) now ∙ ap (λ (d : Disk). d.log) goes.2.rest),
+      none_refused_once (ResizeTo kept) old.present new.present (ap (λ (d : Disk). d.log) now ∙ ap (λ (d : Disk). d.log) goes.2.rest),
     )
 
 -- a resize that isn't done
@@ -44,16 +46,16 @@ resize_cause kept old new SyncFailed goes = absurd (cc (goes.0))
 resize_cause kept old new InvalidChecksum goes = absurd (cc (goes.0))
 resize_cause kept old new BlobInsufficientLength goes = absurd (cc (goes.0))
 resize_cause kept old new OffsetOverflow goes = absurd goes.1
-resize_cause kept old new OutOfMemory goes = tt
+resize_cause kept old new OutOfMemory goes = none_refused_same old new goes.0
 resize_cause kept old new IdsExhausted goes = absurd (cc (goes.0))
 
 -- a sync, done
-pub sync_done : (old new : Life) → SyncGoes old new (Ok tt) → (new.present.readable ≡ old.present.readable) × IsDurable new.present × LogGrows old.present new.present
+pub sync_done : (old new : Life) → SyncGoes old new (Ok tt) → (new.present.readable ≡ old.present.readable) × IsDurable new.present × NoneRefused old.present new.present
 sync_done old new goes =
     let now : new.present ≡ settled_disk (logged SyncAll false old.present) = ap (λ (l : Life). l.present) goes in (
       ap (λ (d : Disk). d.readable) now,
       record { since = ap (λ (d : Disk). d.since) now; base = ap (λ (d : Disk). d.base) now ∙ sym (ap (λ (d : Disk). d.readable) now) },
-      grows_once SyncAll false old.present new.present (ap (λ (d : Disk). d.log) now),
+      none_refused_once SyncAll old.present new.present (ap (λ (d : Disk). d.log) now),
     )
 
 -- a sync that isn't done
@@ -65,27 +67,27 @@ sync_cause old new SyncFailed goes = failed_once SyncAll old.present new.present
 sync_cause old new InvalidChecksum goes = absurd goes
 sync_cause old new BlobInsufficientLength goes = absurd goes
 sync_cause old new OffsetOverflow goes = absurd goes
-sync_cause old new OutOfMemory goes = tt
+sync_cause old new OutOfMemory goes = none_refused_same old new goes
 sync_cause old new IdsExhausted goes = absurd goes
 
 -- what fails in a later part of a call fails in the call
-pub cause_later : (old mid new : Life) (e : Error) → LogGrows old.present mid.present → RecoveryCause mid new e → RecoveryCause old new e
-cause_later old mid new ReadFailed grows cause = failed_later ReadFailed old.present mid.present new.present grows cause
-cause_later old mid new WriteFailed grows cause = failed_later WriteFailed old.present mid.present new.present grows cause
-cause_later old mid new ResizeFailed grows cause = failed_later ResizeFailed old.present mid.present new.present grows cause
-cause_later old mid new SyncFailed grows cause = failed_later SyncFailed old.present mid.present new.present grows cause
-cause_later old mid new InvalidChecksum grows cause = cause
-cause_later old mid new BlobInsufficientLength grows cause = cause
-cause_later old mid new OffsetOverflow grows cause = cause
-cause_later old mid new OutOfMemory grows cause = tt
-cause_later old mid new IdsExhausted grows cause = cause
+pub cause_later : (old mid new : Life) (e : Error) → NoneRefused old.present mid.present → RecoveryCause mid new e → RecoveryCause old new e
+cause_later old mid new ReadFailed served cause = failed_later ReadFailed old.present mid.present new.present (grows_of old.present mid.present served) cause
+cause_later old mid new WriteFailed served cause = failed_later WriteFailed old.present mid.present new.present (grows_of old.present mid.present served) cause
+cause_later old mid new ResizeFailed served cause = failed_later ResizeFailed old.present mid.present new.present (grows_of old.present mid.present served) cause
+cause_later old mid new SyncFailed served cause = failed_later SyncFailed old.present mid.present new.present (grows_of old.present mid.present served) cause
+cause_later old mid new InvalidChecksum served cause = cause
+cause_later old mid new BlobInsufficientLength served cause = cause
+cause_later old mid new OffsetOverflow served cause = cause
+cause_later old mid new OutOfMemory served cause = none_refused_joins old.present mid.present new.present served cause
+cause_later old mid new IdsExhausted served cause = cause
 
 -- a cut that is done
-pub cut_done : (kept : ℕ) (old new : Life) → kept ≤ length old.present.readable → Cuts kept old new (Ok tt) → (new.present.readable ≡ take kept old.present.readable) × IsDurable new.present × LogGrows old.present new.present
+pub cut_done : (kept : ℕ) (old new : Life) → kept ≤ length old.present.readable → Cuts kept old new (Ok tt) → (new.present.readable ≡ take kept old.present.readable) × IsDurable new.present × NoneRefused old.present new.present
 cut_done kept old new le cuts =
     let first = resize_done kept old cuts.0 le cuts.1 in
     let second = sync_done cuts.0 new cuts.2 in
-    (second.0 ∙ first.0, second.1, grows_joins old.present cuts.0.present new.present first.1 second.2)
+    (second.0 ∙ first.0, second.1, none_refused_joins old.present cuts.0.present new.present first.1 second.2)
 
 -- a cut that isn't done
 pub cut_cause : (kept : ℕ) (old new : Life) (e : Error) → kept ≤ length old.present.readable → Cuts kept old new (Err e) → RecoveryCause old new e
@@ -103,7 +105,7 @@ finds_cause p old new SyncFailed finds = absurd finds
 finds_cause p old new InvalidChecksum finds = absurd finds
 finds_cause p old new BlobInsufficientLength finds = absurd finds
 finds_cause p old new OffsetOverflow finds = absurd finds
-finds_cause p old new OutOfMemory finds = tt
+finds_cause p old new OutOfMemory finds = none_refused_answered old.present new.present finds.1
 finds_cause p old new IdsExhausted finds = absurd finds
 
 -- ---- opening
@@ -153,21 +155,21 @@ module _ (sum : List ℕ → ℕ) (P Q size physical : ℕ) (readable : List ℕ
       ∙ ap (λ (x : Prefix). prefix_pages x * (P + 12)) opened_is
 
 -- a look, and then a cut where there is more, done
-pub kept_back : (kept : ℕ) (old mid new : Life) (s : SyncState) → Looked old mid → kept ≤ length old.present.readable → CutsBack kept mid new (Ok s) → IsCutBack old new (take kept old.present.readable) s × LogGrows old.present new.present
-kept_back kept old mid new Dirty looked le cuts =
+pub kept_back : (kept : ℕ) (old mid new : Life) (s : SyncState) → Looked old mid → NoneRefused old.present mid.present → kept ≤ length old.present.readable → CutsBack kept mid new (Ok s) → IsCutBack old new (take kept old.present.readable) s × NoneRefused old.present new.present
+kept_back kept old mid new Dirty looked served le cuts =
     let all : kept ≡ length old.present.readable = cuts.0 ∙ ap length (looked_readable old mid looked) in
-    (whole (take_all kept old.present.readable (omega (arith, all))) (subst (λ (l : Life). Looked old l) (sym cuts.1) looked), subst (λ (l : Life). LogGrows old.present l.present) (sym cuts.1) looked.log)
-kept_back kept old mid new Clean looked le cuts =
+    (whole (take_all kept old.present.readable (omega (arith, all))) (subst (λ (l : Life). Looked old l) (sym cuts.1) looked), subst (λ (l : Life). NoneRefused old.present l.present) (sym cuts.1) served)
+kept_back kept old mid new Clean looked served le cuts =
     let same = looked_readable old mid looked in
     let done = cut_done kept mid new (omega (arith, ap length same)) cuts.1 in (
       cut (λ is. cuts.0 (sym (length-take-le kept old.present.readable le) ∙ ap length is ∙ sym (ap length same))) (done.0 ∙ ap (λ (l : List ℕ). take kept l) same) done.1,
-      grows_joins old.present mid.present new.present looked.log done.2,
+      none_refused_joins old.present mid.present new.present served done.2,
     )
-kept_back kept old mid new (Pending name) looked le cuts = absurd cuts
+kept_back kept old mid new (Pending name) looked served le cuts = absurd cuts
 
 -- a look, and then a cut where there is more, that isn't done
-pub back_cause : (kept : ℕ) (old mid new : Life) (e : Error) → Looked old mid → kept ≤ length old.present.readable → CutsBack kept mid new (Err e) → RecoveryCause old new e
-back_cause kept old mid new e looked le cuts = cause_later old mid new e looked.log (cut_cause kept mid new e (omega (arith, ap length (looked_readable old mid looked))) cuts)
+pub back_cause : (kept : ℕ) (old mid new : Life) (e : Error) → Looked old mid → NoneRefused old.present mid.present → kept ≤ length old.present.readable → CutsBack kept mid new (Err e) → RecoveryCause old new e
+back_cause kept old mid new e looked served le cuts = cause_later old mid new e served (cut_cause kept mid new e (omega (arith, ap length (looked_readable old mid looked))) cuts)
 
 module _ (sum : List ℕ → ℕ) (cache : CacheState) (capacity : ℕ) (old new : Life) where
   -- opening that isn't done
@@ -179,5 +181,5 @@ module _ (sum : List ℕ → ℕ) (cache : CacheState) (capacity : ℕ) (old new
   opens_cause InvalidChecksum cause = cause
   opens_cause BlobInsufficientLength cause = cause
   opens_cause OffsetOverflow cause = absurd cause
-  opens_cause OutOfMemory cause = tt
+  opens_cause OutOfMemory cause = cause
   opens_cause IdsExhausted cause = absurd cause

@@ -39,6 +39,8 @@ use Rattle.paged.specs.Flush.{has_work, with_value}
 use Rattle.paged.specs.Truncate.{CutsTo, Then, Rewrites, ResizesTo, ReadsOnce, ReadsValue, Cutting, ShortenCause, Shortens, writer_at, shortened, shortened_slot, shorten_calls}
 use Rattle.paged.proofs.Recoveries.{resize_cause, resize_done}
 use Rattle.paged.proofs.Shortening.{DeviceCause, Owed, Ready, device_later, cutting_none, cutting_grows, cutting_joins, cutting_fewer, resize_cuts, resize_device, sync_cuts, sync_failed, read_cuts, once_looked, rewrite_goes, stage_calls}
+use Rattle.paged.specs.Calls.{NoneRefused}
+use Rattle.paged.proofs.Causes.{sync_served, none_refused_joins, none_refused_same}
 
 -- ---- what the three writes leave
 
@@ -206,7 +208,7 @@ module _ (sum : List ℕ → ℕ) (P held size n : ℕ) (old : Life) (some : 0 <
   resized : (kept : ℕ) (new : Life) (answer : Result (Unit {0}) Error) → n / P ≤ kept → n ≤ kept * P → kept * (P + 12) ≤ length old.present.readable → ResizeGoes (kept * (P + 12)) old new answer → Owed sum P told floor (n / P) 1 (IsResized kept) old new answer
   resized kept new answer few enough there goes =
       let cuts = resize_cuts sum P told floor (n / P) kept old new answer few (omega (arith, enough)) there start_latest start_holds goes in
-      record { cuts = cuts; done = done answer goes cuts; failed = failed answer goes }
+      record { cuts = cuts; done = done answer goes cuts; failed = failed answer goes; served = answered answer goes }
     where
       done : (answer : Result (Unit {0}) Error) → ResizeGoes (kept * (P + 12)) old new answer → Parts 1 old new → OnOk answer (IsResized kept new)
       done (Err e) goes cuts = tt
@@ -219,6 +221,10 @@ module _ (sum : List ℕ → ℕ) (P held size n : ℕ) (old : Life) (some : 0 <
       failed : (answer : Result (Unit {0}) Error) → ResizeGoes (kept * (P + 12)) old new answer → IfErr answer (λ e. DeviceCause old new e)
       failed (Ok u) goes = tt
       failed (Err e) goes = resize_device old new e (resize_cause (kept * (P + 12)) old new e goes)
+
+      answered : (answer : Result (Unit {0}) Error) → ResizeGoes (kept * (P + 12)) old new answer → OnOk answer (NoneRefused old.present new.present)
+      answered (Ok u) goes = (resize_done (kept * (P + 12)) old new there goes).1
+      answered (Err e) goes = tt
 
   -- a blob that is cut to whole pages
   pub record IsLeft (life : Life) : Type 0 where
@@ -251,17 +257,19 @@ module _ (sum : List ℕ → ℕ) (P held size n : ℕ) (old : Life) (some : 0 <
           cuts = cutting_fewer sum P told floor (n / P) (1 + 1) (shorten_calls P size n) old new (omega (arith, calls_whole none)) (cutting_joins sum P told floor (n / P) 1 1 old mid new a.cuts b);
           done = synced_whole mid new (Ok tt) a.done second;
           failed = tt;
+          served = none_refused_joins old.present mid.present new.present a.served (sync_served mid new tt second);
         }
     cut_goes new (Err e) (inl first) =
         let a = resized (n / P) new (Err e) (omega arith) n_whole pages_reach first in
-        record { cuts = cutting_fewer sum P told floor (n / P) 1 (shorten_calls P size n) old new (omega (arith, calls_whole none)) a.cuts; done = tt; failed = a.failed }
+        record { cuts = cutting_fewer sum P told floor (n / P) 1 (shorten_calls P size n) old new (omega (arith, calls_whole none)) a.cuts; done = tt; failed = a.failed; served = tt }
     cut_goes new (Err e) (inr (mid, first, second)) =
         let a = resized (n / P) mid (Ok tt) (omega arith) n_whole pages_reach first in
         let b = sync_cuts sum P told floor (n / P) mid new (Err e) a.done.latest_is a.done.holds second in
         record {
           cuts = cutting_fewer sum P told floor (n / P) (1 + 1) (shorten_calls P size n) old new (omega (arith, calls_whole none)) (cutting_joins sum P told floor (n / P) 1 1 old mid new a.cuts b);
           done = tt;
-          failed = device_later old mid new e (cutting_grows sum P told floor (n / P) 1 old mid a.cuts) (sync_failed mid new (Err e) second);
+          failed = device_later old mid new e a.served (sync_failed mid new (Err e) second);
+          served = tt;
         }
 
   -- ---- within a page
@@ -277,6 +285,7 @@ module _ (sum : List ℕ → ℕ) (P held size n : ℕ) (old : Life) (some : 0 <
     pub record Resized (unsynced : Bool) (life : Life) : Type 0 where
       pub is : IsResized (n / P + 1) life
       pub cuts : Parts (resize_calls unsynced) old life
+      pub served : NoneRefused old.present life.present
       pub may : (f : ActiveChecksum) → AreBytes (page_at P (n / P) old.present.readable) → active sum P (page_at P (n / P) old.present.readable) ≡ Some f → MayHold sum P told (n / P) f life.present
       pub settled : unsynced ≡ false → life.present.since ≡ []
       pub same : unsynced ≡ false → n / P + 1 ≡ held
@@ -293,6 +302,7 @@ module _ (sum : List ℕ → ℕ) (P held size n : ℕ) (old : Life) (some : 0 <
         holds = start_holds;
       };
       cuts = cutting_none sum P told floor (n / P) old start_holds;
+      served = none_refused_same old old refl;
       may = start_may;
       settled = λ is. at_rest.since;
       same = λ is. all;
@@ -303,6 +313,7 @@ module _ (sum : List ℕ → ℕ) (P held size n : ℕ) (old : Life) (some : 0 <
         record {
           is = a.done;
           cuts = a.cuts;
+          served = a.served;
           may = λ f are is. may_hold_on sum P told (n / P) f old mid (λ held. resize_stays_held sum P told (n / P) f (n / P + 1) old mid (Ok tt) goes (omega arith) held) (start_may f are is);
           settled = λ is. absurd (cc (is));
           same = λ is. absurd (cc (is));
@@ -355,8 +366,8 @@ module _ (sum : List ℕ → ℕ) (P held size n : ℕ) (old : Life) (some : 0 <
             ∙ sym (slot_part sum P n old.present.readable part)
 
         -- the three writes
-        pub rewrite_left : (new : Life) (answer : Result (Unit {0}) Error) → Rewrites P (n / P) f.slot (n % P) crc unsynced late new answer → Owed sum P told floor (n / P) (shorten_calls P size n) IsLeft old new answer
-        rewrite_left new answer goes =
+        pub rewrite_left : NoneRefused mid.present late.present → (new : Life) (answer : Result (Unit {0}) Error) → Rewrites P (n / P) f.slot (n % P) crc unsynced late new answer → Owed sum P told floor (n / P) (shorten_calls P size n) IsLeft old new answer
+        rewrite_left read new answer goes =
             let ready : Ready sum P told floor (n / P) f first_pages (n % P) crc small small_page (omega arith) (omega (arith, n_parts)) first_reach fits part less (mod-lt n some) sum_first first_pages f late = record {
               readable = looked_readable mid late looked ∙ left.is.readable;
               latest_is = looked_latest mid late looked left.is.latest_is;
@@ -368,6 +379,7 @@ module _ (sum : List ℕ → ℕ) (P held size n : ℕ) (old : Life) (some : 0 <
               cuts = cutting_fewer sum P told floor (n / P) (resize_calls unsynced + 1 + (stage_calls unsynced + 2)) (shorten_calls P size n) old new (omega (arith, calls_are)) (cutting_joins sum P told floor (n / P) (resize_calls unsynced + 1) (stage_calls unsynced + 2) old late new read_parts wrote.cuts);
               done = done answer wrote.done;
               failed = failed answer wrote.failed;
+              served = answered answer wrote.served;
             }
           where
             done : (answer : Result (Unit {0}) Error)
@@ -377,7 +389,11 @@ module _ (sum : List ℕ → ℕ) (P held size n : ℕ) (old : Life) (some : 0 <
 
             failed : (answer : Result (Unit {0}) Error) → IfErr answer (λ e. DeviceCause late new e) → IfErr answer (λ e. DeviceCause old new e)
             failed (Ok u) cause = tt
-            failed (Err e) cause = device_later old late new e (cutting_grows sum P told floor (n / P) (resize_calls unsynced + 1) old late read_parts) cause
+            failed (Err e) cause = device_later old late new e (none_refused_joins old.present mid.present late.present left.served read) cause
+
+            answered : (answer : Result (Unit {0}) Error) → OnOk answer (NoneRefused late.present new.present) → OnOk answer (NoneRefused old.present new.present)
+            answered (Ok u) served = none_refused_joins old.present late.present new.present (none_refused_joins old.present mid.present late.present left.served read) served
+            answered (Err e) served = tt
 
 -- ---- the writer
 
@@ -430,32 +446,33 @@ device_shortens sum P n old new SyncFailed cause = cause
 device_shortens sum P n old new InvalidChecksum cause = absurd cause
 device_shortens sum P n old new BlobInsufficientLength cause = absurd cause
 device_shortens sum P n old new OffsetOverflow cause = absurd cause
-device_shortens sum P n old new OutOfMemory cause = tt
+device_shortens sum P n old new OutOfMemory cause = cause
 device_shortens sum P n old new IdsExhausted cause = absurd cause
 
 -- or the value of the page has fewer bytes
-pub read_shortens : (sum : List ℕ → ℕ) (P n : ℕ) (old mid late : Life) (e : Error) → LogGrows old.present mid.present → page_at P (n / P) mid.present.readable ≡ page_at P (n / P) old.present.readable → ReadsValue sum P (n / P) (n % P) mid late (Err e)
+pub read_shortens : (sum : List ℕ → ℕ) (P n : ℕ) (old mid late : Life) (e : Error) → NoneRefused old.present mid.present → page_at P (n / P) mid.present.readable ≡ page_at P (n / P) old.present.readable → ReadsValue sum P (n / P) (n % P) mid late (Err e)
     → ShortenCause sum P n old late e
-read_shortens sum P n old mid late ReadFailed grows same cause = device_later old mid late ReadFailed grows cause
-read_shortens sum P n old mid late WriteFailed grows same cause = absurd cause
-read_shortens sum P n old mid late ResizeFailed grows same cause = absurd cause
-read_shortens sum P n old mid late SyncFailed grows same cause = absurd cause
-read_shortens sum P n old mid late InvalidChecksum grows same cause = subst (λ (l : List ℕ). value_len sum P l < n % P) same cause
-read_shortens sum P n old mid late BlobInsufficientLength grows same cause = absurd cause
-read_shortens sum P n old mid late OffsetOverflow grows same cause = absurd cause
-read_shortens sum P n old mid late OutOfMemory grows same cause = tt
-read_shortens sum P n old mid late IdsExhausted grows same cause = absurd cause
+read_shortens sum P n old mid late ReadFailed served same cause = device_later old mid late ReadFailed served cause
+read_shortens sum P n old mid late WriteFailed served same cause = absurd cause
+read_shortens sum P n old mid late ResizeFailed served same cause = absurd cause
+read_shortens sum P n old mid late SyncFailed served same cause = absurd cause
+read_shortens sum P n old mid late InvalidChecksum served same cause = (subst (λ (l : List ℕ). value_len sum P l < n % P) same cause.0, none_refused_joins old.present mid.present late.present served cause.1)
+read_shortens sum P n old mid late BlobInsufficientLength served same cause = absurd cause
+read_shortens sum P n old mid late OffsetOverflow served same cause = absurd cause
+read_shortens sum P n old mid late OutOfMemory served same cause = none_refused_joins old.present mid.present late.present served cause
+read_shortens sum P n old mid late IdsExhausted served same cause = absurd cause
 
 -- the writer stands after what is left
 pub stands_left : (sum : List ℕ → ℕ) (w now : WriterState) (n : ℕ) (old new : Life) (pages : ℕ) (bytes : List ℕ) (slot : Option ActiveChecksum) (result : Result (Unit {0}) Error) → w.sync ≡ Clean → pages ≡ n / w.page_size
     → bytes ≡ take (n % w.page_size) (drop (n / w.page_size * (w.page_size + 12)) old.present.readable) → slot ≡ shortened_slot sum w.page_size n old.present.readable
-    → new.present.readable ≡ shortened sum w.page_size n old.present.readable → IsDurable new.present → OnOk result (now ≡ writer_at w pages bytes slot) → IsOkUnless result OutOfMemory → Shortens sum n w old new (with_value now result)
-stands_left sum w now n old new pages bytes slot (Ok u) clean page_is bytes_is slot_is readable durable ok err = record {
+    → new.present.readable ≡ shortened sum w.page_size n old.present.readable → IsDurable new.present → NoneRefused old.present new.present → OnOk result (now ≡ writer_at w pages bytes slot) → IsOkUnless result OutOfMemory → Shortens sum n w old new (with_value now result)
+stands_left sum w now n old new pages bytes slot (Ok u) clean page_is bytes_is slot_is readable durable served ok err = record {
   state = ok ∙ (λ i. record w { full_pages = page_is i; tip = bytes_is i; flushed = slot_is i; durable = slot_is i; sync = clean i });
   readable = readable;
   durable = durable;
+  served = served;
 }
-stands_left sum w now n old new pages bytes slot (Err e) clean page_is bytes_is slot_is readable durable ok err = subst (λ (x : Error). ShortenCause sum w.page_size n old new x) (sym err) tt
+stands_left sum w now n old new pages bytes slot (Err e) clean page_is bytes_is slot_is readable durable served ok err = subst (λ (x : Error). ShortenCause sum w.page_size n old new x) (sym err) served
 
 -- ---- a cut within a page, with the page size q as a program has it
 
@@ -506,7 +523,7 @@ module _ (sum : List ℕ → ℕ) (w : WriterState) (n q : ℕ) (old : Life) (sa
       pub within_unread : (e : Error) → ReadsValue sum P (n / q) (n % q) mid late (Err e) → CutsTo sum n w old late × ShortenCause sum P n old late e
       within_unread e goes = (
         read_cut sum P held (size_of w) n old some_size at_rest whole ceil less_size part unsynced mid late within_left once,
-        read_shortens sum P n old mid late e (cutting_grows sum P (text sum P old.present.readable) (min n (length (text sum P old.present.readable))) (n / P) (resize_calls unsynced) old mid within_left.cuts)
+        read_shortens sum P n old mid late e within_left.served
             (page_same sum P held (size_of w) n old some_size at_rest whole ceil less_size part unsynced mid late within_left once) (subst (λ (k : ℕ). ReadsValue sum P (n / k) (n % k) mid late (Err e)) same_size goes),
       )
 
@@ -530,7 +547,7 @@ module _ (sum : List ℕ → ℕ) (w : WriterState) (n q : ℕ) (old : Life) (sa
         wrote : (last : Life) (answer : Result (Unit {0}) Error) → Rewrites P (n / q) value.slot new.len new.crc unsynced late last answer
             → Owed sum P (text sum P old.present.readable) (min n (length (text sum P old.present.readable))) (n / P) (shorten_calls P (size_of w) n) (IsLeft sum P held (size_of w) n old some_size at_rest whole ceil less_size) old last answer
         wrote last answer goes =
-            rewrite_left sum P held (size_of w) n old some_size at_rest whole ceil less_size part unsynced mid late within_left once small small_page (page_fits P (n / P) held below all_fit) value crc value_is.1 value_is.2 value_is.3 sum_is last answer
+            rewrite_left sum P held (size_of w) n old some_size at_rest whole ceil less_size part unsynced mid late within_left once small small_page (page_fits P (n / P) held below all_fit) value crc value_is.1 value_is.2 value_is.3 sum_is value_is.4 last answer
             (subst (λ (k : ℕ). Rewrites P (n / k) value.slot (n % P) crc unsynced late last answer) same_size (subst (λ (a : ActiveChecksum). Rewrites P (n / q) value.slot a.len a.crc unsynced late last answer) new_slot_is goes))
 
         -- one of the writes wasn't done
@@ -546,7 +563,7 @@ module _ (sum : List ℕ → ℕ) (w : WriterState) (n q : ℕ) (old : Life) (sa
               stands_left sum w now n old last (n / q) bytes (Some new) result clean (ap (λ (k : ℕ). n / k) same_size) bytes_are
                   (ap (λ (a : ActiveChecksum). Some a) new_slot_is
                   ∙ slot_left sum P held (size_of w) n old some_size at_rest whole ceil less_size part unsynced mid late within_left once small small_page (page_fits P (n / P) held below all_fit) value crc value_is.1 value_is.2 value_is.3 sum_is)
-                  owed.done.readable owed.done.durable ok err,
+                  owed.done.readable owed.done.durable owed.served ok err,
             )
 
 -- ---- the sync before

@@ -5,11 +5,11 @@ use Rattle.std.specs.Prelude.{OnOk, IfErr, slice_range}
 use Rattle.std.specs.Int.{w16, to_be_bytes}
 use Rattle.std.proofs.lemmas.List.{take-take}
 use Rattle.std.proofs.lemmas.Option.{slice_get_within}
-use Rattle.disk.specs.Disk.{Disk, Life, Operation, HasOperated, Request, ReadAt, ResizeTo, WriteAt, SyncAll, IsImage, IsPartial, OperationGoes, ResizeGoes, SyncGoes, WriteGoes, applied, logged, HasFailed, LogGrows}
+use Rattle.disk.specs.Disk.{DeviceReadGoes, Disk, Life, Operation, HasOperated, Request, ReadAt, ResizeTo, WriteAt, SyncAll, IsImage, IsPartial, OperationGoes, ResizeGoes, SyncGoes, WriteGoes, applied, logged, HasFailed, LogGrows}
 use Rattle.disk.specs.Disk.Operation.{Write, Resize}
 use Rattle.disk.specs.declared.error.Error.{Error}
 use Rattle.disk.specs.declared.error.Error.TheVariants.{ReadFailed, WriteFailed, ResizeFailed, SyncFailed, InvalidChecksum, BlobInsufficientLength, OffsetOverflow, OutOfMemory, IdsExhausted}
-use Rattle.disk.proofs.Logs.{one_more, failed_later}
+use Rattle.disk.proofs.Logs.{one_more, failed_later, failed_once}
 use Rattle.page.specs.Slot.{slot_offset, other}
 use Rattle.page.specs.Page.{slot_bytes, active, value_len}
 use Rattle.page.specs.declared.slot.Slot.{Slot}
@@ -31,13 +31,13 @@ use Rattle.crash.proofs.PageFacts.{slot_offset_le}
 use Rattle.crash.proofs.Pages.{cut_is}
 use Rattle.crash.proofs.ShrinkLaws.{other_other}
 use Rattle.writer_state.proofs.ShortenLaws.{StartsGoOn, MayHold, looked_holds, resize_holds, sync_holds, stage_holds, publish_holds, clear_holds, looked_goes_on, resize_goes_on, write_goes_on, sync_goes_on, goes_on_joins, sync_stays_held, stays_held, may_hold_on, may_hold_spares, may_hold_payload, published_may_hold, published_spares, write_latest, sync_latest}
-use Rattle.paged.specs.Calls.{AsksAtMost, CallCause}
+use Rattle.paged.specs.Calls.{NoneRefused, AsksAtMost, CallCause}
 use Rattle.paged_read.specs.Searches.{AreReadsWithin, ReadsWithin}
 use Rattle.paged.specs.Recovery.{IsDurable, RecoveryCause}
-use Rattle.paged.specs.Truncate.{Then, WritesSlot, Stages, Rewrites, ReadsOnce, Cutting, SparesSlot}
+use Rattle.paged.specs.Truncate.{Then, WritesSlot, Stages, Rewrites, ReadsOnce, ReadsValue, Cutting, SparesSlot}
 use Rattle.disk.specs.Images.{only_image}
 use Rattle.disk.proofs.Lists.{taken_element}
-use Rattle.paged.proofs.Causes.{write_cause, sync_cause, no_overflow}
+use Rattle.paged.proofs.Causes.{sync_served, write_served, grows_of, none_refused_joins, none_refused_same, write_cause, sync_cause, no_overflow}
 use Rattle.crash.proofs.Texts.{AreBytes, active_is}
 use Rattle.paged_read.specs.Ranges.{page_at}
 use Rattle.paged.proofs.Reading.{within_page}
@@ -122,13 +122,13 @@ looked_pages_stay P k old new (inr (failed, is)) m = pages_one P m old new (logg
 
 -- ---- why a call fails
 
--- a device call failed, or memory was refused
+-- a device call failed, or memory was refused, and then no device call failed
 abbrev pub DeviceCause : Life → Life → Error → Type 0
 DeviceCause old new ReadFailed = HasFailed ReadFailed old.present new.present
 DeviceCause old new WriteFailed = HasFailed WriteFailed old.present new.present
 DeviceCause old new ResizeFailed = HasFailed ResizeFailed old.present new.present
 DeviceCause old new SyncFailed = HasFailed SyncFailed old.present new.present
-DeviceCause old new OutOfMemory = Unit {0}
+DeviceCause old new OutOfMemory = NoneRefused old.present new.present
 DeviceCause old new _ = ⊥
 
 write_device : (old new : Life) (e : Error) → CallCause Clean old new e → DeviceCause old new e
@@ -139,7 +139,7 @@ write_device old new SyncFailed cause = elim cause [ inl failed ↦ failed | inr
 write_device old new InvalidChecksum cause = absurd cause
 write_device old new BlobInsufficientLength cause = absurd cause
 write_device old new OffsetOverflow cause = absurd cause
-write_device old new OutOfMemory cause = tt
+write_device old new OutOfMemory cause = cause
 write_device old new IdsExhausted cause = absurd cause
 
 pub resize_device : (old new : Life) (e : Error) → RecoveryCause old new e → DeviceCause old new e
@@ -150,19 +150,19 @@ resize_device old new SyncFailed cause = cause
 resize_device old new InvalidChecksum cause = absurd cause
 resize_device old new BlobInsufficientLength cause = absurd cause
 resize_device old new OffsetOverflow cause = absurd cause
-resize_device old new OutOfMemory cause = tt
+resize_device old new OutOfMemory cause = cause
 resize_device old new IdsExhausted cause = absurd cause
 
-pub device_later : (old mid new : Life) (e : Error) → LogGrows old.present mid.present → DeviceCause mid new e → DeviceCause old new e
-device_later old mid new ReadFailed grows cause = failed_later ReadFailed old.present mid.present new.present grows cause
-device_later old mid new WriteFailed grows cause = failed_later WriteFailed old.present mid.present new.present grows cause
-device_later old mid new ResizeFailed grows cause = failed_later ResizeFailed old.present mid.present new.present grows cause
-device_later old mid new SyncFailed grows cause = failed_later SyncFailed old.present mid.present new.present grows cause
-device_later old mid new InvalidChecksum grows cause = absurd cause
-device_later old mid new BlobInsufficientLength grows cause = absurd cause
-device_later old mid new OffsetOverflow grows cause = absurd cause
-device_later old mid new OutOfMemory grows cause = tt
-device_later old mid new IdsExhausted grows cause = absurd cause
+pub device_later : (old mid new : Life) (e : Error) → NoneRefused old.present mid.present → DeviceCause mid new e → DeviceCause old new e
+device_later old mid new ReadFailed served cause = failed_later ReadFailed old.present mid.present new.present (grows_of old.present mid.present served) cause
+device_later old mid new WriteFailed served cause = failed_later WriteFailed old.present mid.present new.present (grows_of old.present mid.present served) cause
+device_later old mid new ResizeFailed served cause = failed_later ResizeFailed old.present mid.present new.present (grows_of old.present mid.present served) cause
+device_later old mid new SyncFailed served cause = failed_later SyncFailed old.present mid.present new.present (grows_of old.present mid.present served) cause
+device_later old mid new InvalidChecksum served cause = absurd cause
+device_later old mid new BlobInsufficientLength served cause = absurd cause
+device_later old mid new OffsetOverflow served cause = absurd cause
+device_later old mid new OutOfMemory served cause = none_refused_joins old.present mid.present new.present served cause
+device_later old mid new IdsExhausted served cause = absurd cause
 
 -- ---- parts of a cut
 
@@ -232,6 +232,7 @@ module _ (sum : List ℕ → ℕ) (P : ℕ) (told : List ℕ) (F k : ℕ) where
     pub cuts : Cutting sum P told F k c old new
     pub done : OnOk answer (Post new)
     pub failed : IfErr answer (λ e. DeviceCause old new e)
+    pub served : OnOk answer (NoneRefused old.present new.present)
 
   abbrev pub Goes : ℕ → (Life → Type 0) → (Life → Life → Result (Unit {0}) Error → Type 0) → (Life → Type 0) → Type 0
   Goes c Pre calls Post = (old new : Life) (answer : Result (Unit {0}) Error) → Pre old → calls old new answer → Owed c Post old new answer
@@ -240,17 +241,18 @@ module _ (sum : List ℕ → ℕ) (P : ℕ) (told : List ℕ) (F k : ℕ) where
   then_goes c1 c2 Pre Mid Post first second one two old new (Ok u) pre (mid, began, ended) =
       let a = one old mid (Ok tt) pre began in
       let b = two mid new (Ok tt) a.done ended in
-      record { cuts = cutting_joins c1 c2 old mid new a.cuts b.cuts; done = b.done; failed = tt }
+      record { cuts = cutting_joins c1 c2 old mid new a.cuts b.cuts; done = b.done; failed = tt; served = none_refused_joins old.present mid.present new.present a.served b.served }
   then_goes c1 c2 Pre Mid Post first second one two old new (Err e) pre (inl began) =
       let a = one old new (Err e) pre began in
-      record { cuts = cutting_fewer c1 (c1 + c2) old new (omega arith) a.cuts; done = tt; failed = a.failed }
+      record { cuts = cutting_fewer c1 (c1 + c2) old new (omega arith) a.cuts; done = tt; failed = a.failed; served = tt }
   then_goes c1 c2 Pre Mid Post first second one two old new (Err e) pre (inr (mid, began, ended)) =
       let a = one old mid (Ok tt) pre began in
       let b = two mid new (Err e) a.done ended in
       record {
         cuts = cutting_joins c1 c2 old mid new a.cuts b.cuts;
         done = tt;
-        failed = device_later old mid new e (cutting_grows c1 old mid a.cuts) b.failed;
+        failed = device_later old mid new e a.served b.failed;
+        served = tt;
       }
 
 -- ---- writes into slots
@@ -316,6 +318,17 @@ module _ (sum : List ℕ → ℕ) (P page len : ℕ) (readable bytes seen : List
       let found : active sum P (page_at P page readable) ≡ Some a = sym (ap (λ (n : ℕ). active sum n seen) seen_size ∙ ap (λ (l : List ℕ). active sum P l) seen_page) ∙ told in
       omega (arith, less, (active_is sum P (page_at P page readable) a found).fits, page_there, ap length is)
 
+-- the page isn't read
+pub value_unread : (sum : List ℕ → ℕ) (P page len at size : ℕ) (old new : Life) (e : Error) → at + size ≤ length old.present.readable → DeviceReadGoes at size old new (Err e) → ReadsValue sum P page len old new (Err e)
+value_unread sum P page len at size old new ReadFailed there goes = failed_once (ReadAt at size) old.present new.present (ap (λ (l : Life). l.present.log) goes)
+value_unread sum P page len at size old new BlobInsufficientLength there goes = absurd (omega (arith, there, goes.1))
+value_unread sum P page len at size old new OutOfMemory there goes = none_refused_same old new goes.0
+value_unread sum P page len at size old new _ there goes = absurd goes
+
+pub sync_answered : (old new : Life) (answer : Result (Unit {0}) Error) → SyncGoes old new answer → OnOk answer (NoneRefused old.present new.present)
+sync_answered old new (Ok u) goes = sync_served old new u goes
+sync_answered old new (Err e) goes = tt
+
 pub sync_failed : (old new : Life) (answer : Result (Unit {0}) Error) → SyncGoes old new answer → IfErr answer (λ e. DeviceCause old new e)
 sync_failed old new (Ok u) goes = tt
 sync_failed old new (Err e) goes = write_device old new e (sync_cause Clean old new e goes)
@@ -363,6 +376,10 @@ module _ (sum : List ℕ → ℕ) (P : ℕ) (told : List ℕ) (F page : ℕ) (f 
       let offset = page * (P + 12) + P + slot_offset s in
       write_device old new e (write_cause Clean offset written sync old new e goes (no_overflow offset written sync old new e goes (slot_fits s (length written) few)))
 
+  slot_answered : (s : Slot) (written : List ℕ) (sync : Bool) (old new : Life) (answer : Result (Unit {0}) Error) → WritesSlot P page s written sync old new answer → OnOk answer (NoneRefused old.present new.present)
+  slot_answered s written sync old new (Ok u) goes = write_served (page * (P + 12) + P + slot_offset s) written sync old new u goes
+  slot_answered s written sync old new (Err e) goes = tt
+
   -- what a write that is done leaves
   write_done : (offset : ℕ) (written : List ℕ) (sync : Bool) (old new : Life) (u : Unit {0}) → WriteGoes offset written sync old new (Ok u) → new.present.readable ≡ applied (Write offset written) old.present.readable
   write_done offset written true old new u (d, is, done) = ap (λ (l : Life). l.present.readable) is ∙ done.done refl
@@ -389,6 +406,7 @@ module _ (sum : List ℕ → ℕ) (P : ℕ) (told : List ℕ) (F page : ℕ) (f 
         cuts = slot_cuts (other f.slot) (slot_bytes 0 crc) sync old new answer (there_in R f old refl ready) through goes;
         done = done answer goes through;
         failed = slot_failed (other f.slot) (slot_bytes 0 crc) sync old new answer (omega (arith, six)) goes;
+        served = slot_answered (other f.slot) (slot_bytes 0 crc) sync old new answer goes;
       }
     where
       done : (answer : Result (Unit {0}) Error) → WritesSlot P page (other f.slot) (slot_bytes 0 crc) sync old new answer → Through (HoldsText sum P told F) old new → OnOk answer (Ready (applied (staged P page f.slot crc) R) f new)
@@ -424,13 +442,14 @@ module _ (sum : List ℕ → ℕ) (P : ℕ) (told : List ℕ) (F page : ℕ) (f 
     cuts = sync_cuts sum P told F page old new answer ready.latest_is ready.holds goes;
     done = sync_done old new answer ready goes;
     failed = sync_failed old new answer goes;
+    served = sync_answered old new answer goes;
   }
 
   -- the first write, made durable
   stages_goes : (unsynced : Bool) → Goes sum P told F page (stage_calls unsynced) (Ready R f) (λ old new answer. Stages P page f.slot crc unsynced old new answer) (ReadyAtRest (applied (staged P page f.slot crc) R) f)
   stages_goes false old new answer ready goes =
       let owed = stage_goes true old new answer ready goes in
-      record { cuts = owed.cuts; done = done answer goes owed.done; failed = owed.failed }
+      record { cuts = owed.cuts; done = done answer goes owed.done; failed = owed.failed; served = owed.served }
     where
       done : (answer : Result (Unit {0}) Error) → WritesSlot P page (other f.slot) (slot_bytes 0 crc) true old new answer → OnOk answer (Ready (applied (staged P page f.slot crc) R) f new)
           → OnOk answer (ReadyAtRest (applied (staged P page f.slot crc) R) f new)
@@ -471,6 +490,7 @@ module _ (sum : List ℕ → ℕ) (P : ℕ) (told : List ℕ) (F page : ℕ) (f 
         cuts = slot_cuts (other f.slot) (to_be_bytes w16 len) true old new answer (there_in staged_bytes f old staged_size ready) through goes;
         done = done answer goes through;
         failed = slot_failed (other f.slot) (to_be_bytes w16 len) true old new answer (omega (arith, two)) goes;
+        served = slot_answered (other f.slot) (to_be_bytes w16 len) true old new answer goes;
       }
     where
       done : (answer : Result (Unit {0}) Error) → WritesSlot P page (other f.slot) (to_be_bytes w16 len) true old new answer → Through (HoldsText sum P told F) old new → OnOk answer (ReadyAtRest published_bytes new_slot new)
@@ -502,6 +522,7 @@ module _ (sum : List ℕ → ℕ) (P : ℕ) (told : List ℕ) (F page : ℕ) (f 
         cuts = slot_cuts f.slot (slot_bytes 0 0) true old new answer (there_in published_bytes new_slot old published_size ready) through goes;
         done = done answer goes;
         failed = slot_failed f.slot (slot_bytes 0 0) true old new answer (omega (arith, six)) goes;
+        served = slot_answered f.slot (slot_bytes 0 0) true old new answer goes;
       }
     where
       done : (answer : Result (Unit {0}) Error) → WritesSlot P page f.slot (slot_bytes 0 0) true old new answer → OnOk answer ((new.present.readable ≡ applied (cleared P page f.slot) published_bytes) × IsDurable new.present)

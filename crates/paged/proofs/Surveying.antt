@@ -29,6 +29,8 @@ use Rattle.paged.specs.declared.outlook.Outlook.{Outlook}
 use Rattle.paged.specs.declared.verdict.Survey.{Survey}
 use Rattle.paged.specs.Outlook.{IsOutlook, IsSurvey, LeavesAsIs, LookGoes, ReadsToLast, SurveyCosts, SurveyGoes, batches_beyond, text_pages, last_reads, are_zeros, beyond_bytes, beyond_of, has_torn_page, last_page, values_of}
 use Rattle.paged.proofs.Foretelling.{look_keeps_text, look_leaves_text}
+use Rattle.paged_read.specs.Failures.{none_failed_joins, NoneFailed}
+use Rattle.paged.proofs.Readiness.{look_stays_ready}
 
 -- ---- counting
 
@@ -177,6 +179,7 @@ leaves_as_is old new looked = record {
   tails = λ sum cache. look_leaves_tails sum cache old new looked;
   can_read = λ cache. look_leaves_reads cache old new looked;
   replays = look_leaves_replays old new looked;
+  ready = look_stays_ready old new looked;
   floors = λ sum P content. floors_looked sum P content old new looked;
   kept = look_keeps_text old new looked;
   only = look_leaves_text old new looked;
@@ -185,7 +188,7 @@ leaves_as_is old new looked = record {
 -- a look that failed
 pub survey_fault : (sum : List ℕ → ℕ) (P : ℕ) (old new : Life) (e : Error) → LookGoes sum P old new (Err e) → SurveyGoes sum P old new (Err e)
 survey_fault sum P old new ReadFailed looks = looks
-survey_fault sum P old new OutOfMemory looks = tt
+survey_fault sum P old new OutOfMemory looks = looks
 survey_fault sum P old new WriteFailed looks = looks
 survey_fault sum P old new ResizeFailed looks = looks
 survey_fault sum P old new SyncFailed looks = looks
@@ -195,19 +198,19 @@ survey_fault sum P old new OffsetOverflow looks = looks
 survey_fault sum P old new IdsExhausted looks = looks
 
 -- the look at the pages after the text failed
-pub look_fault_later : {A : Type 0} (sum : List ℕ → ℕ) (P reach : ℕ) (a : A) (old mid new : Life) (e : Error) → reach ≤ length mid.present.readable → Looked old mid → LooksThrough reach a mid new (Err e) → LookGoes sum P old new (Err e)
-look_fault_later sum P reach a old mid new ReadFailed there looked looks = failed_later ReadFailed old.present mid.present new.present looked.log looks.0
-look_fault_later sum P reach a old mid new OutOfMemory there looked looks = tt
-look_fault_later sum P reach a old mid new BlobInsufficientLength there looked looks = absurd (omega (arith, there, looks.0))
-look_fault_later sum P reach a old mid new WriteFailed there looked looks = looks
-look_fault_later sum P reach a old mid new ResizeFailed there looked looks = looks
-look_fault_later sum P reach a old mid new SyncFailed there looked looks = looks
-look_fault_later sum P reach a old mid new InvalidChecksum there looked looks = looks
-look_fault_later sum P reach a old mid new OffsetOverflow there looked looks = looks
-look_fault_later sum P reach a old mid new IdsExhausted there looked looks = looks
+pub look_fault_later : {A : Type 0} (sum : List ℕ → ℕ) (P reach : ℕ) (a : A) (old mid new : Life) (e : Error) → reach ≤ length mid.present.readable → Looked old mid → NoneFailed old.present mid.present → LooksThrough reach a mid new (Err e) → LookGoes sum P old new (Err e)
+look_fault_later sum P reach a old mid new ReadFailed there looked none looks = failed_later ReadFailed old.present mid.present new.present looked.log looks.0
+look_fault_later sum P reach a old mid new OutOfMemory there looked none looks = none_failed_joins old.present mid.present new.present none looks.1
+look_fault_later sum P reach a old mid new BlobInsufficientLength there looked none looks = absurd (omega (arith, there, looks.0))
+look_fault_later sum P reach a old mid new WriteFailed there looked none looks = looks
+look_fault_later sum P reach a old mid new ResizeFailed there looked none looks = looks
+look_fault_later sum P reach a old mid new SyncFailed there looked none looks = looks
+look_fault_later sum P reach a old mid new InvalidChecksum there looked none looks = looks
+look_fault_later sum P reach a old mid new OffsetOverflow there looked none looks = looks
+look_fault_later sum P reach a old mid new IdsExhausted there looked none looks = looks
 
-pub later_fault : {A : Type 0} (sum : List ℕ → ℕ) (P reach : ℕ) (a : A) (old mid new : Life) (e : Error) → reach ≤ length mid.present.readable → Looked old mid → LooksThrough reach a mid new (Err e) → SurveyGoes sum P old new (Err e)
-later_fault sum P reach a old mid new e there looked looks = survey_fault sum P old new e (look_fault_later sum P reach a old mid new e there looked looks)
+pub later_fault : {A : Type 0} (sum : List ℕ → ℕ) (P reach : ℕ) (a : A) (old mid new : Life) (e : Error) → reach ≤ length mid.present.readable → Looked old mid → NoneFailed old.present mid.present → LooksThrough reach a mid new (Err e) → SurveyGoes sum P old new (Err e)
+later_fault sum P reach a old mid new e there looked none looks = survey_fault sum P old new e (look_fault_later sum P reach a old mid new e there looked none looks)
 
 -- a call only looked, even where it failed
 pub only_looks : {A : Type 0} (reach : ℕ) (a : A) (old new : Life) (result : Result A Error) → LooksThrough reach a old new result → Looked old new

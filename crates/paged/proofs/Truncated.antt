@@ -22,7 +22,7 @@ use Rattle.crash.specs.Built.{footer, kept_len}
 use Rattle.crash.specs.Guard.{IsSlotFor}
 use Rattle.crash.specs.Moments.{through_joins}
 use Rattle.crash.specs.Started.{AllSettled, CoversThrough, StartsCanBeAwaited}
-use Rattle.writer_state.specs.Sound.{IsConsistent, HasTipPage, IsSound, Soundness, StartsFit, StateFits, TipPage, content}
+use Rattle.writer_state.specs.Sound.{Consistency, IsConsistent, HasTipPage, IsSound, Soundness, StartsFit, StateFits, TipPage, content}
 use Rattle.crash.specs.Contents.{stored, latest}
 use Rattle.crash.specs.Full.{AreFull}
 use Rattle.crash.specs.Kept.{AllOnly}
@@ -35,7 +35,7 @@ use Rattle.crash.proofs.Moments.{only_through}
 use Rattle.crash.proofs.PageFacts.{own_beginning, verified_len_held}
 use Rattle.crash.proofs.Pages.{length-stored, stored_same, take-stored, page_is}
 use Rattle.crash.proofs.Texts.{AreFull_fewer, AreFull_same}
-use Rattle.writer_state.proofs.Soundness.{consistent_of, exact_sound, page_sound, settle_keeps, sound_holds_together}
+use Rattle.writer_state.proofs.Soundness.{sound_of, exact_consistent, page_consistent, consistent_of, exact_sound, page_sound, settle_keeps, sound_holds_together}
 use Rattle.writer_state.proofs.ShortenLaws.{covers_through_shorten, shorten_floors, shorten_leaves, shorten_stands, sound_text}
 use Rattle.paged_read.specs.Ranges.{page_at}
 use Rattle.paged.specs.Calls.{IsSettled, Syncs, WaitsForNone}
@@ -419,32 +419,41 @@ module _ (sum : List ℕ → ℕ) (n : ℕ) (w : WriterState) (old : Life) (some
         subst (λ (v : WriterState). v.full_pages * (v.page_size + 12) ≤ length new.present.readable) (sym is.state)
         (same_reach (n / P * (P + 12)) R new.present.readable (sym (ap (λ (l : List ℕ). take (n / P * (P + 12)) l) is.readable ∙ shortened_begins)) pages_before)
 
-    -- where the pages below are full the writer is sound
-    module _ (small_sum : IsSmall sum) (small : w.page_size < 2 ^ 16) (covered : AreCovered new.present) (full : AreFull sum w.page_size (take (n / w.page_size) (pages w.page_size old.present.readable))) where
-      full_left : AreFull sum P (take (n / P) (pages P new.present.readable))
-      full_left = AreFull_same sum P (n / P) R new.present.readable pages_before (sym (ap (λ (l : List ℕ). take (n / P * (P + 12)) l) is.readable ∙ shortened_begins)) full
-
-      writer_sound : Soundness sum (shortened_writer sum w n R) new.present
-      writer_sound =
+    module _ (small_sum : IsSmall sum) (small : w.page_size < 2 ^ 16) (covered : AreCovered new.present) where
+      writer_consistent : Consistency sum (shortened_writer sum w n R) new.present
+      writer_consistent =
           let v = shortened_writer sum w n R in
           elim (cases_lt 0 (n % P)) [
             | inl part ↦
-                page_sound sum v new.present is.durable.since is.durable.base some small full_left refl (rest_settled new.present covered is.durable.since) small_sum last_slot (slot_within part)
+                page_consistent sum v new.present is.durable.since is.durable.base some small refl (rest_settled new.present covered is.durable.since) small_sum last_slot (slot_within part)
                 (subst (λ (l : List ℕ). HasTipPage sum P (n / P) (take (n % P) (drop (n / P * (P + 12)) R)) l last_slot) (sym is.readable) (has_last_page small_sum small part))
                 (subst (λ (l : List ℕ). PageIsGood sum P (n / P) l) (sym is.readable) (last_page_good small_sum small part))
             | inr past ↦
                 let whole : n % P ≡ 0 = omega (arith, past) in
-                exact_sound sum v new.present is.durable.since is.durable.base some small full_left refl (rest_settled new.present covered is.durable.since) (slot_after whole)
+                exact_consistent sum v new.present is.durable.since is.durable.base some small refl (rest_settled new.present covered is.durable.since) (slot_after whole)
                 (ap length (is.readable ∙ shortened_whole sum P n R whole) ∙ length-take-le (n / P * (P + 12)) R pages_before)
           ]
 
-      pub left_sound : IsSound sum now new.present
-      unfolding IsSound
-      left_sound = subst (λ (v : WriterState). Soundness sum v new.present) (sym is.state) writer_sound
+      -- the writer is consistent with its blob, whether the pages below are full or damaged
+      pub left_consistent : IsConsistent sum now new.present
+      unfolding IsConsistent
+      left_consistent = subst (λ (v : WriterState). Consistency sum v new.present) (sym is.state) writer_consistent
 
-      -- and every image keeps all that is left
-      pub left_keeps : KeepsAll sum P (take n (content w R)) new
-      left_keeps =
-          let v = shortened_writer sum w n R in
-          let same : content v new.present.readable ≡ take n (content w R) = ap (λ (l : List ℕ). content v l) is.readable ∙ shortened_content in
-          subst (λ (l : List ℕ). KeepsAll sum P l new) same (settle_keeps sum v new.present (consistent_of sum v new.present writer_sound) writer_sound.full refl (kept_is ∙ sym length-tip_left))
+      -- where the pages below are full the writer is sound
+      module _ (full : AreFull sum w.page_size (take (n / w.page_size) (pages w.page_size old.present.readable))) where
+        full_left : AreFull sum P (take (n / P) (pages P new.present.readable))
+        full_left = AreFull_same sum P (n / P) R new.present.readable pages_before (sym (ap (λ (l : List ℕ). take (n / P * (P + 12)) l) is.readable ∙ shortened_begins)) full
+
+        writer_sound : Soundness sum (shortened_writer sum w n R) new.present
+        writer_sound = sound_of sum (shortened_writer sum w n R) new.present writer_consistent full_left
+
+        pub left_sound : IsSound sum now new.present
+        unfolding IsSound
+        left_sound = subst (λ (v : WriterState). Soundness sum v new.present) (sym is.state) writer_sound
+
+        -- and every image keeps all that is left
+        pub left_keeps : KeepsAll sum P (take n (content w R)) new
+        left_keeps =
+            let v = shortened_writer sum w n R in
+            let same : content v new.present.readable ≡ take n (content w R) = ap (λ (l : List ℕ). content v l) is.readable ∙ shortened_content in
+            subst (λ (l : List ℕ). KeepsAll sum P l new) same (settle_keeps sum v new.present (consistent_of sum v new.present writer_sound) writer_sound.full refl (kept_is ∙ sym length-tip_left))

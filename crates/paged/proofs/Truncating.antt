@@ -22,7 +22,7 @@ use Rattle.crash.specs.Built.{kept_len}
 use Rattle.crash.specs.Full.{AreFull}
 use Rattle.crash.specs.Kept.{AllOnly}
 use Rattle.crash.specs.Moments.{through_then, through_start, through_more, through_joins}
-use Rattle.writer_state.specs.Sound.{IsSound, Soundness, TipPage, content}
+use Rattle.writer_state.specs.Sound.{IsConsistent, Consistency, IsSound, Soundness, TipPage, content}
 use Rattle.crash.specs.Started.{CoversThrough, StartsCanBeAwaited}
 use Rattle.crash.specs.Stays.{KeepsAll, KeepsFloors, LeavesOnly}
 use Rattle.crash.proofs.BelowLaws.{fewer_stay, pages_join}
@@ -37,20 +37,20 @@ use Rattle.crash.proofs.DistinctLaws.{vouched_at_rest}
 use Rattle.crash.proofs.PageFacts.{own_beginning}
 use Rattle.writer_state.proofs.ShortenLaws.{sound_text}
 use Rattle.crash.proofs.Texts.{AreFull_page}
-use Rattle.writer_state.proofs.Soundness.{consistent_of, settled_sound, settle_keeps, sound_holds_together}
-use Rattle.paged.specs.Calls.{AsksAtMost, CallCause, HoldsWithin, IsSettled, IsWritten, SettlesBy, Syncs, WaitsForNone, sync_calls, settle_calls}
+use Rattle.writer_state.proofs.Soundness.{sound_of, settled_consistent, consistent_of, settled_sound, settle_keeps, sound_holds_together}
+use Rattle.paged.specs.Calls.{NoneRefused, AsksAtMost, CallCause, HoldsWithin, IsSettled, IsWritten, SettlesBy, Syncs, WaitsForNone, sync_calls, settle_calls}
 use Rattle.paged.specs.Flush.{has_work, synced, with_value}
 use Rattle.paged_read.specs.Ranges.{page_at}
 use Rattle.paged.specs.Reads.{HasWriterPages, size_of}
 use Rattle.paged.specs.Recovery.{IsAsOpened, IsDurable, LeavesText}
 use Rattle.paged_read.specs.Searches.{AreReadsWithin, ReadsWithin}
 use Rattle.paged.specs.Truncate.{Truncates, IsTruncated, IsCut, TruncateCause, SoundAndKept, KeepsFloorsWithin, CutsTo, Shortens, IsShortened, ShortenCause, shorten_calls, shortened, shortened_writer, truncate_calls}
-use Rattle.paged.proofs.Causes.{sync_cause, waited_log}
+use Rattle.paged.proofs.Causes.{sync_served, none_refused_joins, none_refused_same, sync_cause, waited_log}
 use Rattle.paged.proofs.Flushes.{idle_written, settle_none, sync_due}
 use Rattle.paged.proofs.Halves.{syncs_stay, sync_keeps, sync_keeps_all}
 use Rattle.paged_read.proofs.Searching.{gained_none, gained_once, gained_joins, within_joins}
 use Rattle.paged.proofs.Waits.{settled_readable}
-use Rattle.paged.proofs.Truncated.{settled_opened, settled_full_before, cut_floors, cut_only, sync_cut_only, sync_cut_covers, sync_cut_starts, left_content, left_size, left_settled, left_there, left_sound, left_keeps}
+use Rattle.paged.proofs.Truncated.{left_consistent, settled_opened, settled_full_before, cut_floors, cut_only, sync_cut_only, sync_cut_covers, sync_cut_starts, left_content, left_size, left_settled, left_there, left_sound, left_keeps}
 
 -- ---- a sync of the blob alone
 
@@ -95,6 +95,12 @@ pub settled_durable : (s : SyncState) (old new : Life) → WaitsForNone s → (s
 settled_durable Clean old new none durable settled_disk = subst (λ (l : Life). IsDurable l.present) (sym settled_disk.1) (durable refl)
 settled_durable Dirty old new none durable settled_disk = subst (λ (l : Life). IsDurable l.present) (sym settled_disk) (record { since = refl; base = refl })
 settled_durable (Pending name) old new none durable settled_disk = absurd none
+
+-- and no device call failed
+settled_served : (s : SyncState) (old new : Life) → WaitsForNone s → SettlesBy s old new (Ok tt) → NoneRefused old.present new.present
+settled_served Clean old new none settles = none_refused_same old new settles.1
+settled_served Dirty old new none settles = sync_served old new tt settles
+settled_served (Pending name) old new none settles = absurd none
 
 -- the text of the only image of a blob of which all is durable
 rest_only : (sum : List ℕ → ℕ) (P : ℕ) (after bytes : List ℕ) (d : Disk) → d.since ≡ [] → d.base ≡ bytes → AllOnly sum P (text sum P bytes) after d
@@ -185,6 +191,7 @@ pub record TruncateOwes (sum : List ℕ → ℕ) (n : ℕ) (w : WriterState) (ol
   pub truncates : Truncates sum n w old new result
   pub there : IfOk result (λ v. HasWriterPages v new)
   pub within : IfOk result (λ v. HoldsWithin v)
+  pub consistent : IfOk result (λ v. IsConsistent sum v new.present)
   pub calls : AsksAtMost (truncate_calls w n) old new
   pub synced : IsSound sum w old.present → size_of w ≤ n → Syncs sum w old new result
   pub idle : sync_calls w ≡ 0 → size_of w ≤ n → (result ≡ Ok w) × (new ≡ old)
@@ -213,33 +220,33 @@ pub record After (sum : List ℕ → ℕ) (w v : WriterState) (old mid : Life) :
   pub size : size_of v ≡ size_of w
   pub full_pages : w.full_pages ≤ v.full_pages
   pub log : LogGrows old.present mid.present
+  pub served : NoneRefused old.present mid.present
 
 -- a tip that is all of the tip's page is as sound whatever slot is the durable one, where nothing
 -- is unsynced
-slot_sound : (sum : List ℕ → ℕ) (w : WriterState) (d : Disk) → Soundness sum (record w { durable = w.flushed; sync = Clean }) d → kept_len w.durable ≤ length w.tip → DurableTells sum w.tip w.durable → length w.tip < w.page_size → Soundness sum (record w { sync = Clean }) d
-slot_sound sum w d sound few tells short = record {
+slot_consistent : (sum : List ℕ → ℕ) (w : WriterState) (d : Disk) → Consistency sum (record w { durable = w.flushed; sync = Clean }) d → kept_len w.durable ≤ length w.tip → DurableTells sum w.tip w.durable → length w.tip < w.page_size → Consistency sum (synced w) d
+slot_consistent sum w d holds few tells short = record {
   stands = record {
-    some = sound.stands.some;
-    small = sound.stands.small;
-    done = sound.stands.done;
-    tip_page = sound.stands.tip_page;
-    state = sound.stands.state;
-    starts = sound.stands.starts;
+    some = holds.stands.some;
+    small = holds.stands.small;
+    done = holds.stands.done;
+    tip_page = holds.stands.tip_page;
+    state = holds.stands.state;
+    starts = holds.stands.starts;
     carries = (omega (arith, few, short), few, tells);
   };
   safe = record {
-    floor = sound.safe.floor;
-    tip = sound.safe.tip;
-    there = sound.safe.there;
-    pages = sound.safe.pages;
-    guard = sound.safe.guard;
-    base = sound.safe.base;
-    position = sound.safe.position;
+    floor = holds.safe.floor;
+    tip = holds.safe.tip;
+    there = holds.safe.there;
+    pages = holds.safe.pages;
+    guard = holds.safe.guard;
+    base = holds.safe.base;
+    position = holds.safe.position;
   };
-  truthful = sound.truthful;
-  vouched = sound.vouched;
-  good = sound.good;
-  full = sound.full;
+  truthful = holds.truthful;
+  vouched = holds.vouched;
+  good = holds.good;
 }
 
 module _ (sum : List ℕ → ℕ) (n : ℕ) (w : WriterState) (old : Life) (t : Truncating sum w old) where
@@ -273,6 +280,7 @@ module _ (sum : List ℕ → ℕ) (n : ℕ) (w : WriterState) (old : Life) (t : 
           size = syncs.0.size ∙ ap length same ∙ size_is;
           full_pages = syncs.0.same.full_pages;
           log = syncs.0.log;
+          served = syncs.0.served;
         }
     | inr opened ↦
         let idle = opened_idle opened in
@@ -300,6 +308,7 @@ module _ (sum : List ℕ → ℕ) (n : ℕ) (w : WriterState) (old : Life) (t : 
           size = ap size_of state;
           full_pages = omega (arith, ap (λ (s : WriterState). s.full_pages) state);
           log = reads_grow 0 old mid (settled_reads 0 w.sync old mid (Ok tt) settles);
+          served = settled_served w.sync old mid opened.waits settles;
         }
   ]
 
@@ -360,7 +369,7 @@ module _ (sum : List ℕ → ℕ) (n : ℕ) (w : WriterState) (old : Life) (t : 
   refuse_cause new InvalidChecksum cause = absurd cause
   refuse_cause new BlobInsufficientLength cause = absurd cause
   refuse_cause new OffsetOverflow cause = absurd cause
-  refuse_cause new OutOfMemory cause = tt
+  refuse_cause new OutOfMemory cause = cause
   refuse_cause new IdsExhausted cause = absurd cause
 
   refused_truncates : (v : WriterState) (new : Life) (e : Error) → SyncsWritten sum w v old new (Err e) → Truncates sum n w old new (Err e)
@@ -376,6 +385,7 @@ module _ (sum : List ℕ → ℕ) (n : ℕ) (w : WriterState) (old : Life) (t : 
     truncates = refused_truncates v new e written;
     there = tt;
     within = tt;
+    consistent = tt;
     calls = omega (arith, written.calls);
     synced = λ sound above. written.syncs sound;
     idle = λ none above. absurd (cc ((none_done v new (Err e) written none).0));
@@ -409,6 +419,7 @@ module _ (sum : List ℕ → ℕ) (n : ℕ) (w : WriterState) (old : Life) (t : 
       settled = later.settled;
       durable = later.opened.durable later.settled.clean;
       log = later.log;
+      served = later.served;
     }
 
     kept_exact : has_work w true ≡ false → IsCut sum n w old new v
@@ -423,16 +434,28 @@ module _ (sum : List ℕ → ℕ) (n : ℕ) (w : WriterState) (old : Life) (t : 
     kept_durable sound = subst (λ (l : List ℕ). KeepsAll sum w.page_size l new) (sym all_kept) (sync_keeps_all sum w old new (Ok v) (written.syncs sound))
 
     -- the writer as it was opened
-    opened_sound : IsAsOpened sum w old.present → AreFull sum w.page_size (take w.full_pages (pages w.page_size old.present.readable)) → Soundness sum (synced w) new.present
-    opened_sound opened full =
+    opened_consistent : IsAsOpened sum w old.present → Consistency sum (synced w) new.present
+    opened_consistent opened =
         let settles = written.written (opened_idle opened) in
         let readable : new.present.readable ≡ old.present.readable = settled_readable w.sync old new (Ok tt) settles in
         let durable : IsDurable new.present = settled_durable w.sync old new opened.waits opened.durable settles in
-        slot_sound sum w new.present
-        (settled_sound sum (record w { durable = w.flushed; sync = Clean }) new.present durable.since durable.base t.some t.small (subst (λ (l : List ℕ). AreFull sum w.page_size (take w.full_pages (pages w.page_size l))) (sym readable) full) refl
+        slot_consistent sum w new.present
+        (settled_consistent sum (record w { durable = w.flushed; sync = Clean }) new.present durable.since durable.base t.some t.small refl
         (rest_settled new.present covered durable.since) t.small_sum (subst (λ (l : List ℕ). TipPage sum w.page_size w.full_pages w.tip l w.flushed) (sym readable) opened.page)
         (subst (λ (l : List ℕ). PageIsGood sum w.page_size w.full_pages l) (sym readable) opened.good))
         opened.carries opened.tells opened.written.short
+
+    opened_sound : IsAsOpened sum w old.present → AreFull sum w.page_size (take w.full_pages (pages w.page_size old.present.readable)) → Soundness sum (synced w) new.present
+    opened_sound opened full =
+        let readable : new.present.readable ≡ old.present.readable = settled_readable w.sync old new (Ok tt) (written.written (opened_idle opened)) in
+        sound_of sum (synced w) new.present (opened_consistent opened) (subst (λ (l : List ℕ). AreFull sum w.page_size (take w.full_pages (pages w.page_size l))) (sym readable) full)
+
+    kept_consistent : IsConsistent sum v new.present
+    unfolding IsConsistent
+    kept_consistent = elim t.stands [
+      | inl sound ↦ sound_holds_together sum v new.present (written.syncs sound).0.sound
+      | inr opened ↦ subst (λ (s : WriterState). Consistency sum s new.present) (sym (written.state (opened_idle opened))) (opened_consistent opened)
+    ]
 
     kept_full : has_work w true ≡ false → SoundAndKept sum n w old new v
     unfolding IsSound
@@ -453,6 +476,7 @@ module _ (sum : List ℕ → ℕ) (n : ℕ) (w : WriterState) (old : Life) (t : 
       truncates = kept_truncates;
       there = (tip_reach sum v.page_size v.full_pages v.tip new.present.readable v.flushed later.opened.page).0;
       within = omega (arith, later.settled.short, later.page_size, later.capacity, t.room);
+      consistent = kept_consistent;
       calls = omega (arith, written.calls);
       synced = λ sound few. written.syncs sound;
       idle = λ none few.
@@ -540,8 +564,8 @@ module _ (sum : List ℕ → ℕ) (n : ℕ) (w : WriterState) (old : Life) (t : 
     cut_only_all sound = sync_cut_only sum n w v old mid new sound (written.syncs sound) cuts (take n (content w old.present.readable))
 
     -- the cut isn't done
-    invalid : value_len sum v.page_size (page_at v.page_size (n / v.page_size) mid.present.readable) < n % v.page_size → TruncateCause sum n w old new InvalidChecksum
-    invalid told =
+    invalid : value_len sum v.page_size (page_at v.page_size (n / v.page_size) mid.present.readable) < n % v.page_size → NoneRefused mid.present new.present → TruncateCause sum n w old new InvalidChecksum
+    invalid told served =
         let never : IsSound sum w old.present → ⊥ = λ sound. sound_tells sum v n mid.present (written.syncs sound).0.sound before.settled less told in
         elim t.stands [
           | inl sound ↦ absurd (never sound)
@@ -550,6 +574,7 @@ module _ (sum : List ℕ → ℕ) (n : ℕ) (w : WriterState) (old : Life) (t : 
             subst (λ (l : List ℕ). value_len sum w.page_size (page_at w.page_size (n / w.page_size) l) < n % w.page_size) (mid_readable (opened_idle opened))
                 (subst (λ (k : ℕ). value_len sum k (page_at k (n / k) mid.present.readable) < n % k) before.page_size told),
             never,
+            none_refused_joins old.present mid.present new.present before.served served,
           )
         ]
 
@@ -558,10 +583,10 @@ module _ (sum : List ℕ → ℕ) (n : ℕ) (w : WriterState) (old : Life) (t : 
     fails_for WriteFailed cause = failed_later WriteFailed old.present mid.present new.present before.log cause
     fails_for ResizeFailed cause = failed_later ResizeFailed old.present mid.present new.present before.log cause
     fails_for SyncFailed cause = inl (failed_later SyncFailed old.present mid.present new.present before.log cause)
-    fails_for InvalidChecksum cause = invalid cause
+    fails_for InvalidChecksum cause = invalid cause.0 cause.1
     fails_for BlobInsufficientLength cause = absurd cause
     fails_for OffsetOverflow cause = absurd cause
-    fails_for OutOfMemory cause = tt
+    fails_for OutOfMemory cause = none_refused_joins old.present mid.present new.present before.served cause
     fails_for IdsExhausted cause = absurd cause
 
     failed_owes : (e : Error) → Shortens sum n v mid new (Err e) → TruncateOwes sum n w old new (Err e)
@@ -569,6 +594,7 @@ module _ (sum : List ℕ → ℕ) (n : ℕ) (w : WriterState) (old : Life) (t : 
       truncates = (fails_for e cause, log_grows);
       there = tt;
       within = tt;
+      consistent = tt;
       calls = cut_calls;
       synced = λ sound above. absurd (omega (arith, above, less_before));
       idle = λ none above. absurd (omega (arith, above, less_before));
@@ -610,6 +636,7 @@ module _ (sum : List ℕ → ℕ) (n : ℕ) (w : WriterState) (old : Life) (t : 
         settled = now_settled;
         durable = is.durable;
         log = log_grows;
+        served = none_refused_joins old.present mid.present new.present before.served is.served;
       }
 
       cut_exact : has_work w true ≡ false → IsCut sum n w old new now
@@ -653,6 +680,7 @@ module _ (sum : List ℕ → ℕ) (n : ℕ) (w : WriterState) (old : Life) (t : 
         truncates = cut_truncates;
         there = left_there sum n v mid positive before.opened less new now is;
         within = omega (arith, now_settled.short, now_page_size, now_capacity, t.room);
+        consistent = left_consistent sum n v mid positive before.opened less new now is t.small_sum small covered;
         calls = cut_calls;
         synced = λ sound above. absurd (omega (arith, above, less_before));
         idle = λ none above. absurd (omega (arith, above, less_before));

@@ -22,8 +22,8 @@ use Rattle.crash.proofs.FloorLaws.{sync_readable}
 use Rattle.writer_state.proofs.StartedLaws.{settles_same, wait_leaves, wait_consistent, wait_covers, waited_keeps}
 use Rattle.writer_state.proofs.Soundness.{consistent_leaves, consistent_of, intact_still, sound_of}
 use Rattle.paged.specs.Flush.{has_work, synced, with_value}
-use Rattle.paged_read.specs.Snapshots.{LeavesAllWriters}
-use Rattle.paged_read.proofs.Outliving.{leaves_writer}
+use Rattle.paged_read.specs.Snapshots.{LeavesAllWriters, LeavesWriter}
+use Rattle.paged_read.proofs.Outliving.{holds_of, leaves_writer}
 use Rattle.paged.specs.Calls.{AsksAtMost, wait_calls, settle_calls, sync_calls, CarriesOn, IsSameWriter, Flushes, Settles, SettlesBy, SyncsOver, PendingSyncFailed, CallCause, WaitsForNone, WaitsOver, Completes, Covers, waited_writer, waited_state}
 use Rattle.paged.proofs.Causes.{wait_cause, wait_asks, wait_grows, wait_served, sync_asks}
 use Rattle.paged.proofs.Flushes.{size_holds, stays_nil, goes_on_more, refuses_more, goes_on_same, settle_goes}
@@ -150,20 +150,21 @@ waits_for_none w = by_state w.sync
 
 -- ---- a wait behind the writer's back
 
-pub wait_leaves_writers : (sum : List ℕ → ℕ) (started : StartedSync) (old new : Life) (result : Result (Unit {0}) Error) → IsSmall sum → WaitStartedGoes started old new result → LeavesAllWriters sum old new
-unfolding IsSound
-wait_leaves_writers sum (Named name) old new result small goes w sound =
-    let holds = consistent_of sum w old.present sound in
+wait_leaves_writer : (sum : List ℕ → ℕ) (w : WriterState) (started : StartedSync) (old new : Life) (result : Result (Unit {0}) Error) → IsSmall sum → WaitStartedGoes started old new result → IsConsistent sum w old.present → LeavesWriter sum w old new
+unfolding IsConsistent
+wait_leaves_writer sum w (Named name) old new result small goes holds =
     let left = wait_leaves sum w old new name small holds result goes in
-    let same = wait_readable name old new result goes in
-    leaves_writer sum w old new sound (sound_of sum w new.present left.0 (intact_still sum w old.present new.present same sound.full)) same left.1 (wait_covers_by sum w name old new result holds goes)
-wait_leaves_writers sum Done old new (Ok u) small is w sound =
-    leaves_writer sum w old new sound
-    (subst (λ (l : Life). Soundness sum w l.present) (sym is) sound)
+    leaves_writer sum w old new holds left.0 (wait_readable name old new result goes) left.1 (wait_covers_by sum w name old new result holds goes)
+wait_leaves_writer sum w Done old new (Ok u) small is holds =
+    leaves_writer sum w old new holds
+    (subst (λ (l : Life). Consistency sum w l.present) (sym is) holds)
     (ap (λ (l : Life). l.present.readable) is)
-    (subst (λ (l : Life). StaysThrough sum w.page_size (content w old.present.readable) old l) (sym is) (stays_through_start sum w.page_size (content w old.present.readable) old sound.truthful sound.vouched))
+    (subst (λ (l : Life). StaysThrough sum w.page_size (content w old.present.readable) old l) (sym is) (stays_through_start sum w.page_size (content w old.present.readable) old holds.truthful holds.vouched))
     (covers_none sum w.page_size (content w old.present.readable) old new is)
-wait_leaves_writers sum Done old new (Err e) small goes w sound = absurd goes
+wait_leaves_writer sum w Done old new (Err e) small goes holds = absurd goes
+
+pub wait_leaves_writers : (sum : List ℕ → ℕ) (started : StartedSync) (old new : Life) (result : Result (Unit {0}) Error) → IsSmall sum → WaitStartedGoes started old new result → LeavesAllWriters sum old new
+wait_leaves_writers sum started old new result small goes w stands = wait_leaves_writer sum w started old new result small goes (holds_of sum w old.present stands)
 
 -- what a started sync covers is kept from the wait on
 pub wait_covers_all : (sum : List ℕ → ℕ) (started : StartedSync) (old new : Life) (result : Result (Unit {0}) Error) → WaitStartedGoes started old new result → OnOk result ((P : ℕ) → Covers sum P started old new)

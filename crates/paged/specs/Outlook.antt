@@ -11,6 +11,7 @@ use Rattle.page.specs.Page.{active, bad_slot, pages, text}
 use Rattle.cache.specs.CacheState.{CacheState}
 use Rattle.writer_state.specs.WriterState.{WriterState}
 use Rattle.crash.specs.Stays.{KeepsAllFloors}
+use Rattle.paged_read.specs.Failures.{NoneFailed}
 use Rattle.paged_read.specs.Replay.{LeavesAllReplays}
 use Rattle.paged_read.specs.RawReads.{ReadsRising}
 use Rattle.paged_read.specs.Scans.{ReadsForward, ReadsUpToEnd, batches, batches_to_end, pages_from}
@@ -20,6 +21,7 @@ use Rattle.paged.specs.declared.verdict.Survey.{Survey}
 use Rattle.paged.specs.declared.verdict.Verdict.{Verdict}
 use Rattle.paged.specs.declared.verdict.Verdict.TheVariants.{Whole, Cut, Keep, Refuse}
 use Rattle.paged.specs.Reads.{size_of}
+use Rattle.paged.specs.Ready.{StaysReady}
 use Rattle.paged.specs.Recovers.{Recovers}
 use Rattle.paged.specs.Recovery.{KeepsText, LeavesText}
 
@@ -30,11 +32,13 @@ pub record IsOutlook (sum : List ℕ → ℕ) (P : ℕ) (bytes : List ℕ) (outl
   pub pages : outlook.pages ≡ div_ceil outlook.len P
   pub cut : outlook.pages * (P + 12) + outlook.cut ≡ length bytes
 
--- a look: it answers an outlook, or a read failed in the call, or memory was refused
+-- a look: it answers an outlook, or a read failed in the call, or memory was refused. Unless it
+-- answers `ReadFailed` no device call failed
 abbrev pub LookGoes : (List ℕ → ℕ) → (P : ℕ) → Life → Life → Result Outlook Error → Type 0
-LookGoes sum P old new (Ok outlook) = IsOutlook sum P old.present.readable outlook
+LookGoes sum P old new (Ok outlook) =
+    IsOutlook sum P old.present.readable outlook × NoneFailed old.present new.present
 LookGoes sum P old new (Err ReadFailed) = HasFailed ReadFailed old.present new.present
-LookGoes sum P old new (Err OutOfMemory) = Unit {0}
+LookGoes sum P old new (Err OutOfMemory) = NoneFailed old.present new.present
 LookGoes sum P old new (Err _) = ⊥
 
 -- a recovery of these bytes that succeeds gives a writer of `len` logical bytes, and leaves `pages`
@@ -83,6 +87,7 @@ abbrev pub LooksToLast : (List ℕ → ℕ) → (P : ℕ) → Life → Life → 
 LooksToLast sum P old new (Ok found) =
     IsOutlook sum P old.present.readable found.0
     × (found.1 ≡ has_torn_page sum P old.present.readable found.0)
+    × NoneFailed old.present new.present
 LooksToLast sum P old new (Err e) = LookGoes sum P old new (Err e)
 
 -- how many of these bytes' whole pages after the kept ones have a value, and whether all bytes of
@@ -93,11 +98,13 @@ pub record IsSurvey (sum : List ℕ → ℕ) (P : ℕ) (bytes : List ℕ) (surve
   pub blank : survey.blank ≡ are_zeros (beyond_bytes P survey.outlook.pages bytes)
   pub torn : survey.torn ≡ has_torn_page sum P bytes survey.outlook
 
--- a survey: it answers all this, or a read failed in the call, or memory was refused
+-- a survey: it answers all this, or a read failed in the call, or memory was refused. Unless it
+-- answers `ReadFailed` no device call failed
 abbrev pub SurveyGoes : (List ℕ → ℕ) → (P : ℕ) → Life → Life → Result Survey Error → Type 0
-SurveyGoes sum P old new (Ok survey) = IsSurvey sum P old.present.readable survey
+SurveyGoes sum P old new (Ok survey) =
+    IsSurvey sum P old.present.readable survey × NoneFailed old.present new.present
 SurveyGoes sum P old new (Err ReadFailed) = HasFailed ReadFailed old.present new.present
-SurveyGoes sum P old new (Err OutOfMemory) = Unit {0}
+SurveyGoes sum P old new (Err OutOfMemory) = NoneFailed old.present new.present
 SurveyGoes sum P old new (Err _) = ⊥
 
 -- how many pages a recovery of these bytes would keep
@@ -123,6 +130,8 @@ pub record LeavesAsIs (old new : Life) : Type 0 where
   pub tails : (sum : List ℕ → ℕ) (cache : CacheState) → LeavesAllTails sum cache cache old new
   pub can_read : (cache : CacheState) → LeavesAllReads cache cache old new
   pub replays : LeavesAllReplays old new
+  pub ready : (sum : List ℕ → ℕ) (w : WriterState) (cache : CacheState)
+      → StaysReady sum w cache cache old new
   pub floors : (sum : List ℕ → ℕ) (P : ℕ) → KeepsAllFloors sum P old new
   pub kept : (sum : List ℕ → ℕ) (P : ℕ) → KeepsText sum P old new
   pub only : (sum : List ℕ → ℕ) (P : ℕ) → LeavesText sum P old new

@@ -9,7 +9,7 @@ use Rattle.cache.specs.CacheState.{CacheState}
 use Rattle.writer_state.specs.WriterState.{WriterState}
 use Rattle.writer_state.specs.declared.sync_state.SyncState.TheVariants.{Clean}
 use Rattle.writer_state.specs.Sound.{IsSound, LeavesItsContent, content}
-use Rattle.paged.specs.Calls.{IsSettled}
+use Rattle.paged.specs.Calls.{IsSettled, NoneRefused}
 use Rattle.paged.specs.Recovery.{IsDurable, RecoveryCause, opened_writer, opened_bytes, cache_after}
 use Rattle.paged.specs.Truncate.{cut_writer, cut_bytes}
 
@@ -49,7 +49,8 @@ abbrev pub Recovers : (List ℕ → ℕ) → CacheState → ℕ → Life → Lif
 Recovers sum cache capacity old new (Ok w) = IsRecovered sum cache capacity old new w
 Recovers sum cache capacity old new (Err OffsetOverflow) =
     (new ≡ old) × (2 ^ 64 ≤ adjusted capacity cache.page_size)
-Recovers sum cache capacity old new (Err IdsExhausted) = 2 ^ 64 ≤ cache.ids_given
+Recovers sum cache capacity old new (Err IdsExhausted) =
+    (2 ^ 64 ≤ cache.ids_given) × NoneRefused old.present new.present
 Recovers sum cache capacity old new (Err e) = RecoveryCause old new e
 
 -- the cache after a recovery: at an error an id may have been given or not

@@ -27,16 +27,16 @@ use Rattle.paged_read.specs.declared.prefix.Prefix.{Prefix}
 use Rattle.writer_state.specs.declared.sync_state.SyncState.TheVariants.{Pending}
 use Rattle.paged_read.specs.Prefix.{bad_in, last_prefix, prefix_pages, tip_of, HasBytes}
 use Rattle.paged_read.specs.Ranges.{page_at}
-use Rattle.paged.specs.Calls.{IsWritten, WaitsForNone}
+use Rattle.paged.specs.Calls.{IsWritten, NoneRefused, WaitsForNone}
 
 -- why opening or recovering a blob may answer this error: a device call failed in it, or memory was
--- refused
+-- refused, and then no device call failed
 abbrev pub RecoveryCause : Life → Life → Error → Type 0
 RecoveryCause old new ReadFailed = HasFailed ReadFailed old.present new.present
 RecoveryCause old new WriteFailed = HasFailed WriteFailed old.present new.present
 RecoveryCause old new ResizeFailed = HasFailed ResizeFailed old.present new.present
 RecoveryCause old new SyncFailed = HasFailed SyncFailed old.present new.present
-RecoveryCause old new OutOfMemory = Unit {0}
+RecoveryCause old new OutOfMemory = NoneRefused old.present new.present
 RecoveryCause old new _ = ⊥
 
 -- all that is readable is durable
@@ -157,6 +157,8 @@ pub record IsOpened (sum : List ℕ → ℕ) (cache : CacheState) (capacity : �
   -- whether its pages are full or damaged
   pub consistent : IsDurable old.present → IsConsistent sum w new.present
   pub log : LogGrows old.present new.present
+  -- no device call failed
+  pub served : NoneRefused old.present new.present
 
 abbrev pub Opens : (List ℕ → ℕ) → CacheState → ℕ → Life → Life → Result WriterState Error → Type 0
 Opens sum cache capacity old new (Ok w) = IsOpened sum cache capacity old new w
@@ -165,6 +167,7 @@ Opens sum cache capacity old new (Err OffsetOverflow) =
 Opens sum cache capacity old new (Err IdsExhausted) =
     (2 ^ 64 ≤ cache.ids_given) × (sync : SyncState)
     × IsCutBack old new (opened_bytes sum cache.page_size old.present.readable) sync
+    × NoneRefused old.present new.present
 Opens sum cache capacity old new (Err e) = RecoveryCause old new e
 
 -- the cache after a call that asks for an id: at `Ok` it gave one, and at an error it is as it was

@@ -18,8 +18,9 @@ use Rattle.writer_state.specs.Sound.{IsSound, LeavesItsContent, content}
 use Rattle.paged_read.specs.Hand.{HandState, kept_with}
 use Rattle.paged_read.specs.Searches.{ReadsWithin}
 use Rattle.paged_read.specs.Snapshots.{LeavesOthers, LeavesReads}
-use Rattle.paged.specs.Caches.{PutsUpTo, ReadsOn}
-use Rattle.paged.specs.Calls.{AsksAtMost, HoldsWithin, Syncs, sync_calls}
+use Rattle.paged_read.specs.Tail.{CanRead}
+use Rattle.paged.specs.Caches.{PutsUpTo, ReadsOn, tail_of}
+use Rattle.paged.specs.Calls.{AsksAtMost, HoldsWithin, NoneRefused, Syncs, sync_calls}
 use Rattle.paged.specs.Flush.{has_work}
 use Rattle.paged.specs.Reads.{HasWriterPages, size_of}
 use Rattle.paged.specs.Ready.{IsUsable}
@@ -86,6 +87,8 @@ pub record RecoverGoes (sum : List ℕ → ℕ) (cache after : CacheState) (capa
   pub ids : GivesId result cache after
   pub writer : IfOk result (λ w. IsNewWriter sum cache new w)
   pub durable : OnOk result (KeepsWholeText sum cache.page_size old new)
+  -- no device call failed
+  pub served : OnOk result (NoneRefused old.present new.present)
 
 -- a recovery that keeps the content, for which no page is read again
 pub record RecoverKeepingGoes (sum : List ℕ → ℕ) (cache after : CacheState) (capacity : ℕ)
@@ -103,6 +106,8 @@ pub record RecoverWithinGoes (sum : List ℕ → ℕ) (cache after : CacheState)
   pub ids : GivesIdWithin result cache after
   pub writer : IfOk result (λ w. IsNewWriter sum cache new w)
   pub durable : OnOk result (KeepsWholeText sum cache.page_size old new)
+  -- no device call failed
+  pub served : OnOk result (NoneRefused old.present new.present)
 
 -- ---- a truncate to n bytes, of a writer that is sound or as it was opened
 
@@ -122,6 +127,11 @@ pub record TruncateGoes (sum : List ℕ → ℕ) (n : ℕ) (w : WriterState) (ca
   -- `IsCut` has them, and the writer is sound if the pages that are left were full
   pub exact : has_work w true ≡ false → IfOk result (IsCut sum n w old new)
   pub full : has_work w true ≡ false → IfOk result (SoundAndKept sum n w old new)
+  -- whether its pages are full or damaged, the writer can be cut again, and if it could be read the
+  -- other calls of a writer can follow
+  pub as_opened : IfOk result (λ v. IsAsOpened sum v new.present)
+  pub usable : CanRead (tail_of w) cache old.present → IsFresh cache
+      → IfOk result (λ v. IsUsable sum v after new)
 
 -- what a truncate to n bytes guarantees at each of its moments, and at every answer
 pub record OwesCutting (sum : List ℕ → ℕ) (n : ℕ) (w : WriterState) (cache after : CacheState)

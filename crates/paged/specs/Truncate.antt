@@ -25,7 +25,7 @@ use Rattle.paged_read.specs.Ranges.{page_at}
 use Rattle.paged.specs.Reads.{size_of}
 use Rattle.paged.specs.Flush.{synced}
 use Rattle.paged.specs.Recovery.{IsDurable}
-use Rattle.paged.specs.Calls.{AsksAtMost, IsSettled, PendingSyncFailed, sync_calls}
+use Rattle.paged.specs.Calls.{AsksAtMost, IsSettled, NoneRefused, PendingSyncFailed, sync_calls}
 use Rattle.paged_read.specs.Searches.{ReadsWithin}
 
 -- the new slot of the last page of a blob that is cut inside that page: the one that wasn't its
@@ -101,10 +101,13 @@ pub record IsTruncated (sum : List ℕ → ℕ) (n : ℕ) (w : WriterState) (old
   pub settled : IsSettled now
   pub durable : IsDurable new.present
   pub log : LogGrows old.present new.present
+  -- no device call failed
+  pub served : NoneRefused old.present new.present
 
 -- why a truncate may answer this error: a device call failed in it, or the started sync that it
 -- waited for had failed, or memory was refused. Or the value of the page in which it was to cut has
--- fewer bytes than the page is to keep, which is never so for a sound writer
+-- fewer bytes than the page is to keep, which is never so for a sound writer. In these two cases no
+-- device call failed
 abbrev pub TruncateCause : (List ℕ → ℕ) → (n : ℕ) → WriterState → Life → Life → Error → Type 0
 TruncateCause sum n w old new ReadFailed = HasFailed ReadFailed old.present new.present
 TruncateCause sum n w old new WriteFailed = HasFailed WriteFailed old.present new.present
@@ -115,8 +118,8 @@ TruncateCause sum n w old new InvalidChecksum =
     (n < size_of w)
     × (value_len sum w.page_size (page_at w.page_size (n / w.page_size) old.present.readable)
     < n % w.page_size)
-    × (IsSound sum w old.present → ⊥)
-TruncateCause sum n w old new OutOfMemory = Unit {0}
+    × (IsSound sum w old.present → ⊥) × NoneRefused old.present new.present
+TruncateCause sum n w old new OutOfMemory = NoneRefused old.present new.present
 TruncateCause sum n w old new _ = ⊥
 
 abbrev pub Truncates : (List ℕ → ℕ) → (n : ℕ) → WriterState → Life → Life
@@ -200,17 +203,20 @@ ReadsOnce P page old new =
     (new ≡ old)
     ⊎ ((failed : Bool) × AskedOnce (ReadAt (page * (P + 12)) (P + 12)) failed old new)
 
--- the first `len` bytes of a page, and its value's slot; the value has at least as many bytes
+-- the first `len` bytes of a page, and its value's slot; the value has at least as many bytes.
+-- Unless the read failed no device call failed
 abbrev pub ReadsValue : (List ℕ → ℕ) → (P page len : ℕ) → Life → Life
     → Result (List ℕ × ActiveChecksum) Error → Type 0
 ReadsValue sum P page len old new (Ok r) =
     (r.0 ≡ take len (drop (page * (P + 12)) old.present.readable))
     × (active sum P (page_at P page old.present.readable) ≡ Some r.1) × (len ≤ r.1.len)
     × ((i : ℕ) → get_or (page_at P page old.present.readable) i 0 < 256)
+    × NoneRefused old.present new.present
 ReadsValue sum P page len old new (Err ReadFailed) = HasFailed ReadFailed old.present new.present
 ReadsValue sum P page len old new (Err InvalidChecksum) =
-    value_len sum P (page_at P page old.present.readable) < len
-ReadsValue sum P page len old new (Err OutOfMemory) = Unit {0}
+    (value_len sum P (page_at P page old.present.readable) < len)
+    × NoneRefused old.present new.present
+ReadsValue sum P page len old new (Err OutOfMemory) = NoneRefused old.present new.present
 ReadsValue sum P page len old new (Err _) = ⊥
 
 -- why a cut of a blob of which all is durable may answer this error
@@ -220,8 +226,9 @@ ShortenCause sum P n old new WriteFailed = HasFailed WriteFailed old.present new
 ShortenCause sum P n old new ResizeFailed = HasFailed ResizeFailed old.present new.present
 ShortenCause sum P n old new SyncFailed = HasFailed SyncFailed old.present new.present
 ShortenCause sum P n old new InvalidChecksum =
-    value_len sum P (page_at P (n / P) old.present.readable) < n % P
-ShortenCause sum P n old new OutOfMemory = Unit {0}
+    (value_len sum P (page_at P (n / P) old.present.readable) < n % P)
+    × NoneRefused old.present new.present
+ShortenCause sum P n old new OutOfMemory = NoneRefused old.present new.present
 ShortenCause sum P n old new _ = ⊥
 
 -- the first n bytes are left, durably
@@ -230,6 +237,7 @@ pub record IsShortened (sum : List ℕ → ℕ) (n : ℕ) (w : WriterState) (old
   pub state : now ≡ shortened_writer sum w n old.present.readable
   pub readable : new.present.readable ≡ shortened sum w.page_size n old.present.readable
   pub durable : IsDurable new.present
+  pub served : NoneRefused old.present new.present
 
 abbrev pub Shortens : (List ℕ → ℕ) → (n : ℕ) → WriterState → Life → Life
     → Result WriterState Error → Type 0

@@ -4,6 +4,7 @@ use Rattle.disk.specs.Disk.{Life}
 use Rattle.cache.specs.CacheState.{CacheState}
 use Rattle.crash.specs.Looks.{Looked}
 use Rattle.writer_state.specs.WriterState.{WriterState}
+use Rattle.paged_read.specs.Failures.{NoneFailed}
 use Rattle.paged.specs.declared.outlook.Outlook.{Outlook}
 use Rattle.paged.specs.declared.within.Refusal.{Refusal}
 use Rattle.paged.specs.declared.within.Refusal.TheVariants.{WouldCut, Failed}
@@ -26,8 +27,8 @@ abbrev pub MayGo : (List ℕ → ℕ) → (P allowed : ℕ) → (bytes : List �
 MayGo sum P allowed bytes = (cut : ℕ) × PutsAtStake sum P bytes cut × (cut ≤ allowed)
 
 -- a recovery within a limit, by its answer: at `Ok` no more was to go than is allowed. If more
--- would go, the answer is that number, and the blob was only looked at. After another error it was
--- only looked at too, unless no more was to go than is allowed
+-- would go, the answer is that number, the blob was only looked at, and no device call failed.
+-- After another error it was only looked at too, unless no more was to go than is allowed
 abbrev pub RecoversWithin : (List ℕ → ℕ) → CacheState → (capacity allowed : ℕ) → Life → Life
     → Result WriterState Refusal → Type 0
 RecoversWithin sum cache capacity allowed old new (Ok w) =
@@ -35,6 +36,7 @@ RecoversWithin sum cache capacity allowed old new (Ok w) =
     × Recovers sum cache capacity old new (Ok w)
 RecoversWithin sum cache capacity allowed old new (Err (WouldCut cut)) =
     PutsAtStake sum cache.page_size old.present.readable cut × (allowed < cut) × Looked old new
+    × NoneFailed old.present new.present
 RecoversWithin sum cache capacity allowed old new (Err (Failed e)) =
     (Looked old new ⊎ MayGo sum cache.page_size allowed old.present.readable)
     × Recovers sum cache capacity old new (Err e)

@@ -7,7 +7,7 @@ ghost use Rattle.std.specs.Int.NonZero.{non_zero_u16_get, non_zero_usize_get};
 ghost use Rattle.writer_state.specs.declared.sync_state.SyncState.TheVariants.{Clean};
 ghost use Rattle.paged_read.specs.Prefix.{prefix_pages, prefix_size, tip_of};
 ghost use Rattle.paged.specs.Writer.{FitsBlob};
-ghost use Rattle.paged.specs.Calls.{HoldsWithin};
+ghost use Rattle.paged.specs.Calls.{HoldsWithin, NoneRefused};
 ghost use Rattle.paged.specs.Recovery.{Opens, Cuts, CutsBack, GivesWriter, cache_after};
 ghost use Rattle.paged.specs.Recovery.{at_prefix, slot_of_tip};
 ghost use Rattle.paged.specs.Recovery.{IsAsOpened, KeepsText, LeavesText};
@@ -410,6 +410,10 @@ fn recover_all<B: Blob, H: Sum>(
 
     // Other blobs can still be read, with the same cache.
     ensures others { LeavesReads cache.old cache.new }
+
+    // No device call failed.
+    ensures served { let old = B.life blob.old in let new = B.life blob.new in
+        OnOk result (NoneRefused old.present new.present) }
 
     // From then on every image (possible state after a crash) keeps the whole text.
     ensures durable { let old = B.life blob.old in let new = B.life blob.new in

@@ -7,6 +7,8 @@ ghost use Rattle.paged_read.specs.Reads.{LookLeaves};
 ghost use Rattle.paged_read.specs.Scans.{IsProven, IsWithinBlob, ReadsUpToEnd, scan_end};
 ghost use Rattle.paged_read.specs.Scans.{scan_start, scan_to, ScanAnswers, text_of_first};
 ghost use Rattle.paged_read.specs.Searches.{scan_bytes};
+ghost use Rattle.cache.specs.CacheState.{CacheState};
+ghost use Rattle.paged.specs.Ready.{StaysReady};
 ghost use Rattle.paged.specs.Recovery.{IsAsOpened};
 ghost use Rattle.paged.specs.Scans.{flushed_pages, IdlesAt, ScanCosts, ScanFirstCosts};
 ghost use Rattle.paged.specs.Scans.{ScanFirstGoes, ScanGoes};
@@ -61,9 +63,10 @@ impl<B: Blob, H: Sum, Phase> Writer<B, H, Phase> {
             let most = non_zero_usize_get buffer_size in
             ScanCosts H.sum_of self.now proven most old new result }
 
-        // For a recovery that was opened over any blob: it can still be cut.
-        ensures opened { let old = B.life blob.old in let new = B.life blob.new in
-            IsAsOpened H.sum_of self.now old.present → IsAsOpened H.sum_of self.now new.present }
+        // A writer that was ready or usable with a cache still is, and one that was opened over any
+        // blob can still be cut.
+        ensures ready { let old = B.life blob.old in let new = B.life blob.new in
+            (cache : CacheState) → StaysReady H.sum_of self.now cache cache old new }
     {
         self.scan_to(blob, proven, self.flushed_pages(), buffer_size, options)
     }
@@ -86,8 +89,8 @@ impl<B: Blob, H: Sum, Phase> Writer<B, H, Phase> {
         ensures costs { let old = B.life blob.old in let new = B.life blob.new in
             let most = non_zero_usize_get buffer_size in
             ScanFirstCosts H.sum_of self.now proven max_size most old new }
-        ensures opened { let old = B.life blob.old in let new = B.life blob.new in
-            IsAsOpened H.sum_of self.now old.present → IsAsOpened H.sum_of self.now new.present }
+        ensures ready { let old = B.life blob.old in let new = B.life blob.new in
+            (cache : CacheState) → StaysReady H.sum_of self.now cache cache old new }
     {
         self.scan_first(blob, proven, max_size, buffer_size, options)
     }

@@ -6,7 +6,7 @@ ghost use Rattle.std.specs.Int.{w16, to_be_bytes};
 ghost use Rattle.page.specs.Slot.{other};
 ghost use Rattle.page.specs.Page.{active, slot_bytes, value_len};
 ghost use Rattle.writer_state.specs.declared.sync_state.SyncState.TheVariants.{Clean};
-ghost use Rattle.writer_state.specs.Sound.{IsSound, LeavesItsContent, content};
+ghost use Rattle.writer_state.specs.Sound.{IsConsistent, IsSound, LeavesItsContent, content};
 ghost use Rattle.crash.specs.Below.{PagesStay};
 ghost use Rattle.crash.specs.Started.{CoversThrough, StartsCanBeAwaited};
 ghost use Rattle.crash.specs.Stays.{KeepsAll, LeavesOnly};
@@ -90,6 +90,8 @@ impl<B: Blob, H: Sum> Recovery<B, H> {
             Truncates H.sum_of size self old new result }
         ensures there { IfOk result (λ w. HasWriterPages w (B.life blob.new)) }
         ensures within { IfOk result (λ w. HoldsWithin w) }
+        ensures consistent { IfOk result (λ w.
+            IsConsistent H.sum_of w (B.life blob.new).present) }
         ensures calls { AsksAtMost (truncate_calls self size) (B.life blob.old) (B.life blob.new) }
         ensures synced { let old = B.life blob.old in let new = B.life blob.new in
             IsSound H.sum_of self old.present → size_of self ≤ size

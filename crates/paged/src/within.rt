@@ -10,7 +10,7 @@ ghost use Rattle.paged_read.specs.Searches.{scan_bytes};
 ghost use Rattle.paged_read.specs.Snapshots.{LeavesReads};
 ghost use Rattle.paged_read.specs.Tail.{CanRead};
 ghost use Rattle.paged.specs.Caches.{tail_of};
-ghost use Rattle.paged.specs.Calls.{HoldsWithin};
+ghost use Rattle.paged.specs.Calls.{HoldsWithin, NoneRefused};
 ghost use Rattle.paged.specs.Reads.{HasWriterPages};
 ghost use Rattle.paged.specs.Recovers.{Recovers, GivesId};
 ghost use Rattle.paged.specs.Recovery.{KeepsText, LeavesText, TailIsMended};
@@ -72,6 +72,8 @@ fn recover_text<B: Blob, H: Sum>(
         → IfOk result (λ w. CanRead (tail_of w) cache.new (B.life blob.new).present) }
     ensures fresh_ids { IsFresh cache.old → IsFresh cache.new }
     ensures others { LeavesReads cache.old cache.new }
+    ensures served { let old = B.life blob.old in let new = B.life blob.new in
+        OnOk result (NoneRefused old.present new.present) }
     ensures durable { let old = B.life blob.old in let new = B.life blob.new in
         let all = text H.sum_of cache.old.page_size old.present.readable in
         OnOk result (KeepsAll H.sum_of cache.old.page_size all new) }
@@ -152,6 +154,10 @@ fn recover_looked<B: Blob, H: Sum>(
 
     // Other blobs can still be read, with the same cache.
     ensures others { LeavesReads cache.old cache.new }
+
+    // No device call failed.
+    ensures served { let old = B.life blob.old in let new = B.life blob.new in
+        OnOk result (NoneRefused old.present new.present) }
 
     // From then on every image (possible state after a crash) keeps the whole text.
     ensures durable { let old = B.life blob.old in let new = B.life blob.new in

@@ -24,6 +24,7 @@ pub mod Outliving
 pub mod FullReads
 mod Hands
 pub mod ReadAheads
+pub mod Queues
 pub mod AheadCosts
 pub mod Replays
 pub mod ReplayExamples

@@ -11,15 +11,15 @@ use Rattle.crash.specs.Below.{SamePages, PagesStay}
 use Rattle.crash.specs.Full.{AreFull}
 use Rattle.crash.specs.Looks.{SameButLog, Looked}
 use Rattle.crash.specs.Moments.{through_end, through_then}
-use Rattle.writer_state.specs.Sound.{IsSound, content}
+use Rattle.writer_state.specs.Sound.{IsConsistent, IsSound, content}
 use Rattle.writer_state.specs.WriterState.{WriterState}
 use Rattle.crash.specs.Started.{CoversStay, CoversThrough}
 use Rattle.crash.specs.Stays.{Stays, StaysThrough}
 use Rattle.crash.proofs.BelowLaws.{fewer_stay, pages_there, full_still, stored_still}
 use Rattle.crash.proofs.LookLaws.{looked_readable}
 use Rattle.crash.proofs.Moments.{kept_through, only_through, stays_alike, stays_itself}
-use Rattle.writer_state.proofs.FloorLaws.{floors_of_sound}
-use Rattle.writer_state.proofs.Soundness.{looked_sound}
+use Rattle.writer_state.proofs.FloorLaws.{floors_of_consistent}
+use Rattle.writer_state.proofs.Soundness.{intact_is_sound, intact_still, looked_consistent, sound_holds_together, sound_is_intact}
 use Rattle.writer_state.proofs.StartedLaws.{alike_covers}
 use Rattle.page.specs.Page.{pages}
 use Rattle.paged_read.specs.Tail.{Tail, logical_bytes, tail_size, HasPages, CanRead}
@@ -182,43 +182,57 @@ module _ (sum : List ℕ → ℕ) (mine : Tail) (cache after : CacheState) (old 
 
 -- ---- a read leaves the blob's writer
 
+-- a writer of the blob, sound or not, is consistent with it
+pub holds_of : (sum : List ℕ → ℕ) (w : WriterState) (d : Disk)
+    → IsSound sum w d ⊎ IsConsistent sum w d → IsConsistent sum w d
+holds_of sum w d (inl sound) = sound_holds_together sum w d sound
+holds_of sum w d (inr holds) = holds
+
 -- what its writer keeps, and what a crash at any moment keeps and leaves
 pub leaves_writer : (sum : List ℕ → ℕ) (w : WriterState) (old new : Life)
-    → IsSound sum w old.present → IsSound sum w new.present
+    → IsConsistent sum w old.present → IsConsistent sum w new.present
     → new.present.readable ≡ old.present.readable
     → StaysThrough sum w.page_size (content w old.present.readable) old new
     → CoversThrough sum w.page_size (content w old.present.readable) old new
     → LeavesWriter sum w old new
-leaves_writer sum w old new sound still readable stays covers =
+leaves_writer sum w old new holds still readable stays covers =
     let P = w.page_size in
     let held = content w old.present.readable in
     record {
-      sound = still;
+      consistent = still;
+      sound = λ sound. intact_is_sound sum w new.present still
+          (intact_still sum w old.present new.present readable
+          (sound_is_intact sum w old.present sound));
       readable = readable;
       stays = stays;
       covers = covers;
-      kept = floors_of_sound sum w old new sound
+      kept = floors_of_consistent sum w old new holds
           (λ floor enough keeps. kept_through sum P held old new stays floor enough keeps);
       only = only_through sum P held held old new stays;
     }
 
-pub look_leaves_writers : (sum : List ℕ → ℕ) (old new : Life) → Looked old new
-    → LeavesAllWriters sum old new
-unfolding IsSound
-look_leaves_writers sum old new looked w sound =
+look_leaves_writer : (sum : List ℕ → ℕ) (w : WriterState) (old new : Life) → Looked old new
+    → IsConsistent sum w old.present → LeavesWriter sum w old new
+unfolding IsConsistent
+look_leaves_writer sum w old new looked holds =
     let held = content w old.present.readable in
-    leaves_writer sum w old new sound (looked_sound sum w old new sound looked)
+    leaves_writer sum w old new holds (looked_consistent sum w old new holds looked)
     (looked_readable old new looked)
     (through_then (SameButLog old.present) (Stays sum w.page_size held old.present) old new
     (λ d same. stays_alike sum w.page_size held old.present old.present d
     (ap (λ (x : Disk). x.base) same) (ap (λ (x : Disk). x.since) same)
-    (stays_itself sum w.page_size held old.present sound.truthful sound.vouched)) looked.through)
+    (stays_itself sum w.page_size held old.present holds.truthful holds.vouched)) looked.through)
     (through_then (SameButLog old.present)
     (CoversStay sum w.page_size held old.present) old new
     (λ d same. alike_covers sum w.page_size held old.present d
     (ap (λ (x : Disk). x.base) same) (ap (λ (x : Disk). x.since) same)
     (ap (λ (x : Disk). x.settled) same) (ap (λ (x : Disk). coverings x) same))
     looked.through)
+
+pub look_leaves_writers : (sum : List ℕ → ℕ) (old new : Life) → Looked old new
+    → LeavesAllWriters sum old new
+look_leaves_writers sum old new looked w stands =
+    look_leaves_writer sum w old new looked (holds_of sum w old.present stands)
 
 -- ---- calls that change no byte, and calls that put nothing
 

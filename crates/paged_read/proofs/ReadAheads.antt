@@ -146,7 +146,7 @@ taken_is P batch full page d (b ∷ rest) first a result answer are is same offs
         subst (λ (x : Option (List ℕ)). IfSome x (λ bytes. bytes ∷ [] ≡ batch_bytes P batch full page d.readable)) (sym answers) tt
 
 -- the range of a batch is within the blob
-batch_within : (P batch full page : ℕ) (readable : List ℕ) → page < full → full * (P + 12) ≤ length readable → IsWithin (batch_range P batch full page ∷ []) readable
+pub batch_within : (P batch full page : ℕ) (readable : List ℕ) → page < full → full * (P + 12) ≤ length readable → IsWithin (batch_range P batch full page ∷ []) readable
 batch_within P batch full page readable below reach zero d under =
     let less : (page + min batch (full - page)) * (P + 12) ≤ full * (P + 12) = mul-le-mul_right (P + 12) (omega (arith, below)) in
     omega (arith, less, reach)

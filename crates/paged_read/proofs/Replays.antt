@@ -19,9 +19,9 @@ use Rattle.crash.proofs.LookLaws.{looked_readable}
 use Rattle.crash.proofs.Pages.{drop-stored, fewer_fit, length-stored, stored_same, stored_suc, take-stored}
 use Rattle.crash.proofs.Texts.{AreFull_page}
 use Rattle.paged_read.specs.Hand.{payloads}
-use Rattle.paged_read.specs.ReadAhead.{AddsBatch, AreFullPages, AreNext, after_batch, BatchesFollow, HasFirst, IsBatch, IsQueue, ReadsBatch, ReadsBatches}
+use Rattle.paged_read.specs.ReadAhead.{QueuesAsked, AddsBatch, AreFullPages, AreNext, after_batch, BatchesFollow, HasFirst, IsBatch, IsQueue, ReadsBatch, ReadsBatches}
 use Rattle.paged_read.specs.Failures.{NoneFailed, TellsFailure}
-use Rattle.paged_read.specs.Replay.{batches_between, EnsureCosts, IsHad, IsReadAhead, advanced, CanReplay, CopyToBytesGoes, CopyToSliceGoes, Gives, end_of, Ensures, FillFault, StaysFilled, FillsOnce, HasFilled, IsAhead, IsReplay, IsReplayOf, IsToppedUp, new_replay, ReplaysOn, ReplaysThrough, ReplayState}
+use Rattle.paged_read.specs.Replay.{AsksForQueue, batches_between, EnsureCosts, IsHad, IsReadAhead, advanced, CanReplay, CopyToBytesGoes, CopyToSliceGoes, Gives, end_of, Ensures, FillFault, StaysFilled, FillsOnce, HasFilled, IsAhead, IsReplay, IsReplayOf, IsToppedUp, new_replay, ReplaysOn, ReplaysThrough, ReplayState}
 use Rattle.paged_read.specs.Snapshots.{IsTailOf}
 use Rattle.paged_read.specs.Tail.{HasFullPages, logical_bytes, Tail, tail_size}
 use Rattle.paged_read.specs.declared.ahead.Ahead.{Ahead}
@@ -30,6 +30,7 @@ use Rattle.paged_read.proofs.AheadCosts.{batches_join, batches_none, ceil_step}
 use Rattle.paged_read.proofs.Hands.{payloads_first, payloads_none, payloads_short}
 use Rattle.paged_read.proofs.Leaving.{length-told, told_in_tip}
 use Rattle.paged_read.proofs.ReadAheads.{one_run}
+use Rattle.paged_read.proofs.Queues.{queue_joins, queue_same}
 
 -- ---- the payloads of a batch
 
@@ -471,6 +472,7 @@ pub record Reached (sum : List ℕ → ℕ) (r : ReplayState) (count : ℕ) (now
   -- nothing is asked for that doesn't come to hand
   pub alone : length now.hand ≡ length r.hand → (new ≡ old) × (now.queue ≡ r.queue)
   pub asked : Asked r now old new
+  pub queued : AsksForQueue r now old new
   pub can : CanReplay now new.present
   pub looked : Looked old new
 
@@ -484,6 +486,7 @@ reach_start sum r count old can = record {
   idle = λ had. refl;
   alone = λ same. (refl, refl);
   asked = asked_none r old;
+  queued = queue_same r.tail.page_size r.batch r.tail.full_pages r.queue old.present old.present;
   can = can;
   looked = looked_start old;
 }
@@ -497,12 +500,19 @@ reach_idle sum r count mid old between new so_far less idle had = elim had [
       idle (subst (λ (u : Tail). u.full_pages * u.page_size ≤ end_of mid) (sym so_far.fills.tail) after) ∙ so_far.idle (inr rest)
 ]
 
+-- what was queued in two parts of a call
+pub queued_on : (sum : List ℕ → ℕ) (r : ReplayState) (count : ℕ) (mid now : ReplayState) (old between new : Life) → Reached sum r count mid old between → AsksForQueue mid now between new → Looked between new → AsksForQueue r now old new
+queued_on sum r count mid now old between new so_far queued looked =
+    queue_joins r.tail.page_size r.batch r.tail.full_pages r.queue mid.queue now.queue old.present between.present new.present so_far.looked.log looked.log so_far.queued
+    (subst (λ (b : ℕ). QueuesAsked r.tail.page_size b r.tail.full_pages mid.queue now.queue between.present new.present) so_far.fills.batch
+    (subst (λ (u : Tail). QueuesAsked u.page_size mid.batch u.full_pages mid.queue now.queue between.present new.present) so_far.fills.tail queued))
+
 -- one fill more
 pub reach_more : (sum : List ℕ → ℕ) (r : ReplayState) (count : ℕ) (mid now : ReplayState) (old between new : Life) → Reached sum r count mid old between → IsReplay mid → length mid.hand < count
     → FillsOnce sum mid now between new (Ok (tt {0})) → (mid.tail.full_pages * mid.tail.page_size ≤ end_of mid → new ≡ between)
     → end_of now / mid.tail.page_size ≡ after_batch mid.batch mid.tail.full_pages (end_of mid / mid.tail.page_size) → length new.present.log ≤ length between.present.log + 4 → (IsReadAhead mid → length new.present.log ≤ length between.present.log + 1)
-    → ReadsBatches mid.tail.page_size mid.batch mid.tail.full_pages (end_of mid / mid.tail.page_size) between new → CanReplay now new.present → Looked between new → Reached sum r count now old new
-reach_more sum r count mid now old between new so_far is less filled idle stepped calls served reads can looked =
+    → ReadsBatches mid.tail.page_size mid.batch mid.tail.full_pages (end_of mid / mid.tail.page_size) between new → CanReplay now new.present → AsksForQueue mid now between new → Looked between new → Reached sum r count now old new
+reach_more sum r count mid now old between new so_far is less filled idle stepped calls served reads can queued looked =
     let t = r.tail in
     let P = t.page_size in
     let fills = filled.0 in
@@ -541,6 +551,7 @@ reach_more sum r count mid now old between new so_far is less filled idle steppe
             (λ same. ((so_far.alone same).0, omega (arith, same, so_far.fills.position))) so_far.asked
             (idle (subst (λ (u : Tail). u.full_pages * u.page_size ≤ end_of mid) (sym so_far.fills.tail) past))
       ];
+      queued = queued_on sum r count mid now old between new so_far queued looked;
       can = can;
       looked = looked_joins old between new so_far.looked looked;
     }

@@ -1,9 +1,9 @@
 -- Batches of pages that are read ahead.
-use Rattle.std.specs.Prelude.{◌≡◌, ◌≤◌, ◌<◌, ◌+◌, ◌-◌, ◌*◌, ◌/◌, ℕ, zero, suc, List, [], ◌∷◌, ◌++◌}
-use Rattle.std.specs.Prelude.{drop}
+use Rattle.std.specs.Prelude.{◌≡◌, ◌⊎◌, ◌≤◌, ◌<◌, ◌+◌, ◌-◌, ◌*◌, ◌/◌, ℕ, zero, suc}
+use Rattle.std.specs.Prelude.{List, [], ◌∷◌, ◌++◌, All, Contains, drop, Bool, true, false}
 use Rattle.std.specs.Prelude.{length, min, max, Result, Ok, Err}
 use Rattle.std.specs.Int.{div_ceil}
-use Rattle.disk.specs.Disk.{Disk, Life, bytes_of, HasFailed, Request, StartReadMany}
+use Rattle.disk.specs.Disk.{Disk, Entry, Life, bytes_of, HasFailed, Request, StartReadMany}
 use Rattle.disk.specs.declared.error.Error.{Error}
 use Rattle.disk.specs.declared.error.Error.TheVariants.{ReadFailed, InvalidChecksum, OutOfMemory}
 use Rattle.page.specs.Page.{value_len}
@@ -111,3 +111,25 @@ AreOfBatches P batch full first (_ ∷ rest) = ⊥
 -- each device call since then starts a read of one batch, which begins at page `first` or after it
 abbrev pub ReadsBatches : (P batch full first : ℕ) → Life → Life → Type 0
 ReadsBatches P batch full first old new = Gained (AreOfBatches P batch full first) old new
+
+-- between these moments the device was called with this request, and the call failed or not
+abbrev pub WasCalled : Request → (failed : Bool) → Disk → Disk → Type 0
+WasCalled request failed from to =
+    (more : List Entry) × (to.log ≡ from.log ++ more)
+    × Contains more (record { request = request; failed = failed })
+
+-- between these moments a read of this batch was asked of the device, which answered what is kept
+-- of it. Where the device had no memory for it the log has no call
+abbrev pub IsAskedFor : (P batch full page : ℕ) → Disk → Disk → Result (List (List ℕ)) Error
+    → Type 0
+IsAskedFor P batch full page from to (Ok bytes) =
+    WasCalled (StartReadMany (batch_range P batch full page ∷ [])) false from to
+IsAskedFor P batch full page from to (Err ReadFailed) =
+    WasCalled (StartReadMany (batch_range P batch full page ∷ [])) true from to
+IsAskedFor P batch full page from to (Err OutOfMemory) = Unit {0}
+IsAskedFor P batch full page from to (Err _) = ⊥
+
+-- each batch that is queued now was queued before, or was asked for since
+abbrev pub QueuesAsked : (P batch full : ℕ) → (was now : List Ahead) → Disk → Disk → Type 0
+QueuesAsked P batch full was now from to =
+    All (λ a. Contains was a ⊎ IsAskedFor P batch full a.page from to a.read) now

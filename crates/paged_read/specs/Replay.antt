@@ -11,7 +11,7 @@ use Rattle.disk.specs.declared.error.Error.TheVariants.{BlobInsufficientLength}
 use Rattle.paged_read.specs.Failures.{TellsFailure}
 use Rattle.paged_read.specs.Tail.{Tail, logical_bytes, tail_size, HasPages, HasFullPages}
 use Rattle.paged_read.specs.ReadAhead.{batch_of, AreFullPages, AreNext, HasFirst, IsBatch}
-use Rattle.paged_read.specs.ReadAhead.{IsQueue, ReadsBatches}
+use Rattle.paged_read.specs.ReadAhead.{IsQueue, QueuesAsked, ReadsBatches}
 use Rattle.paged_read.specs.Snapshots.{IsTailOf}
 use Rattle.paged_read.specs.declared.ahead.Ahead.{Ahead}
 use Rattle.paged_read.specs.declared.hand.TooFew.{TooFew}
@@ -169,12 +169,19 @@ Ensures sum r count now old new (Err e) =
     × (now.exhausted ≡ r.exhausted)
     × (length now.hand ≡ length r.hand → TellsFailure {A = Bool} old new (Err e))
 
+-- each batch that a call queued was asked for in it
+abbrev pub AsksForQueue : ReplayState → ReplayState → Life → Life → Type 0
+AsksForQueue r now old new =
+    let t = r.tail in
+    QueuesAsked t.page_size r.batch t.full_pages r.queue now.queue old.present new.present
+
 -- a call that gets `count` bytes at hand; afterwards the replay gives the content that it gave
 pub record EnsureGoes (sum : List ℕ → ℕ) (r : ReplayState) (count : ℕ) (now : ReplayState)
     (old new : Life) (result : Result Bool Error) : Type 0 where
   pub answers : Ensures sum r count now old new result
   pub replays : ReplaysThrough r now old new
   pub can : CanReplay now new.present
+  pub asked : AsksForQueue r now old new
 
 -- the next three batches are queued, and the first of them was read
 abbrev pub IsReadAhead : ReplayState → Type 0

@@ -1,11 +1,11 @@
 -- What a snapshot of a blob gives, and what stays valid through a call of the blob, or of another
 -- blob with the same cache.
-use Rattle.std.specs.Prelude.{◌≡◌, ◌≢◌, ◌≤◌, ◌<◌, ◌^◌, ℕ, List, length}
+use Rattle.std.specs.Prelude.{◌≡◌, ◌≢◌, ◌⊎◌, ◌≤◌, ◌<◌, ◌^◌, ℕ, List, length}
 use Rattle.disk.specs.Disk.{Disk, Life}
 use Rattle.page.specs.Tip.{Tip, tip_size}
 use Rattle.cache.specs.CacheState.{CacheState}
 use Rattle.writer_state.specs.WriterState.{WriterState}
-use Rattle.writer_state.specs.Sound.{IsSound, content}
+use Rattle.writer_state.specs.Sound.{IsConsistent, IsSound, content}
 use Rattle.crash.specs.Started.{CoversThrough}
 use Rattle.crash.specs.Stays.{KeepsAllFloors, LeavesOnly, StaysThrough}
 use Rattle.paged_read.specs.Tail.{Tail, logical_bytes, IsView, HasPages, HasFullPages, CanRead}
@@ -60,11 +60,13 @@ LeavesOthers id cache after =
 abbrev pub LeavesReads : CacheState → CacheState → Type 0
 LeavesReads cache after = (t : Tail) (d : Disk) → CanRead t cache d → CanRead t after d
 
--- a call behind the back of a blob's writer: the writer stays sound (keeps its invariant), and the
--- blob's bytes stay. At each moment of the call a crash keeps and leaves what it would in a call of
--- the writer, and started syncs cover what they covered.
+-- a call behind the back of a blob's writer: the writer stays consistent with the blob, and sound
+-- (keeps its invariant) if it was, and the blob's bytes stay. At each moment of the call a crash
+-- keeps and leaves what it would in a call of the writer, and started syncs cover what they
+-- covered.
 pub record LeavesWriter (sum : List ℕ → ℕ) (w : WriterState) (old new : Life) : Type 0 where
-  pub sound : IsSound sum w new.present
+  pub consistent : IsConsistent sum w new.present
+  pub sound : IsSound sum w old.present → IsSound sum w new.present
   pub readable : new.present.readable ≡ old.present.readable
   pub stays : StaysThrough sum w.page_size (content w old.present.readable) old new
   pub covers : CoversThrough sum w.page_size (content w old.present.readable) old new
@@ -72,7 +74,9 @@ pub record LeavesWriter (sum : List ℕ → ℕ) (w : WriterState) (old new : Li
   pub only : LeavesOnly sum w.page_size (content w old.present.readable)
       (content w old.present.readable) old new
 
--- each sound writer of the blob is left as `LeavesWriter` has it
+-- each writer of the blob is left as `LeavesWriter` has it, whether it is sound, or consistent with
+-- a blob in which a page is damaged
 abbrev pub LeavesAllWriters : (List ℕ → ℕ) → Life → Life → Type 0
 LeavesAllWriters sum old new =
-    (w : WriterState) → IsSound sum w old.present → LeavesWriter sum w old new
+    (w : WriterState) → IsSound sum w old.present ⊎ IsConsistent sum w old.present
+    → LeavesWriter sum w old new

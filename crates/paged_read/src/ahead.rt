@@ -1,7 +1,7 @@
 // Batches of pages that are read ahead.
 ghost use Rattle.std.specs.Prelude.{◌≡◌, ◌≤◌, ◌<◌, ◌+◌, ◌-◌, ◌*◌, ◌^◌, ◌∷◌, [], ℕ, List, length};
 ghost use Rattle.std.specs.Prelude.{min};
-ghost use Rattle.std.specs.Prelude.{◌≢◌, IfErr, OnErr, Some, slice_get};
+ghost use Rattle.std.specs.Prelude.{◌≢◌, Contains, IfErr, OnErr, Some, slice_get};
 ghost use Rattle.std.specs.Prelude.{All, IfSome, IsTrue, ◌↔◌, Ok, Err, vec_capacity, OnOk};
 ghost use Rattle.std.specs.Int.NonZero.{non_zero_u16_get};
 ghost use Rattle.crash.specs.Looks.{Looked};
@@ -10,7 +10,7 @@ ghost use Rattle.paged_read.specs.Failures.{NoneFailed, TellsFailure};
 ghost use Rattle.paged_read.specs.ReadAhead.{batch_range, after_batch, batch_bytes, AreFullPages};
 ghost use Rattle.paged_read.specs.ReadAhead.{AddsBatch, AreNext, BatchesFollow, FetchesBatch};
 ghost use Rattle.paged_read.specs.ReadAhead.{IsBatch, HasFirst, IsQueue, page_after, ReadsBatch};
-ghost use Rattle.paged_read.specs.ReadAhead.{ReadsBatches};
+ghost use Rattle.paged_read.specs.ReadAhead.{QueuesAsked, ReadsBatches};
 
 use crate::full::is_full;
 use crate::hand::Hand;
@@ -121,6 +121,9 @@ impl Batches {
         ensures next { AreNext 3 self.batch self.full_pages page queue.new.items }
         ensures batches { let P = non_zero_u16_get self.page_size in
             All (IsBatch P self.batch self.full_pages (B.life blob.new).present) queue.new.items }
+        ensures asked { let old = B.life blob.old in let new = B.life blob.new in
+            QueuesAsked (non_zero_u16_get self.page_size) self.batch self.full_pages
+            queue.old.items queue.new.items old.present new.present }
         ensures room { vec_capacity queue.new ≡ vec_capacity queue.old }
         ensures calls { let old = B.life blob.old in let new = B.life blob.new in
             length new.present.log + length queue.old.items
@@ -154,6 +157,7 @@ impl Batches {
         ensures fewer { IfSome result (λ _.
             length queue.new.items + 1 ≡ length queue.old.items) }
         ensures queue { IsQueue self.batch self.full_pages queue.new.items }
+        ensures kept { All (Contains queue.old.items) queue.new.items }
         ensures room { vec_capacity queue.new ≡ vec_capacity queue.old }
     {
         match queue.first() {
@@ -201,6 +205,7 @@ impl Batches {
         ensures batches { let P = non_zero_u16_get self.page_size in
             All (IsBatch P self.batch self.full_pages (B.life blob.new).present) queue.new.items }
         ensures few { length queue.new.items ≤ 3 }
+        ensures kept { All (Contains queue.old.items) queue.new.items }
         ensures room { vec_capacity queue.new ≡ vec_capacity queue.old }
         ensures failed { TellsFailure (B.life blob.old) (B.life blob.new) result }
         ensures calls { let old = B.life blob.old in let new = B.life blob.new in
@@ -245,6 +250,7 @@ impl Batches {
         ensures batches { let P = non_zero_u16_get self.page_size in
             All (IsBatch P self.batch self.full_pages (B.life blob.new).present) queue.new.items }
         ensures few { length queue.new.items ≤ 3 }
+        ensures kept { All (Contains queue.old.items) queue.new.items }
         ensures room { vec_capacity queue.new ≡ vec_capacity queue.old }
         ensures failed { TellsFailure (B.life blob.old) (B.life blob.new) result }
         ensures calls { let old = B.life blob.old in let new = B.life blob.new in
@@ -305,6 +311,9 @@ impl Batches {
             → OnOk result (length new.present.log ≤ length old.present.log + 1) }
         ensures asks { let P = non_zero_u16_get self.page_size in
             ReadsBatches P self.batch self.full_pages page (B.life blob.old) (B.life blob.new) }
+        ensures asked { let old = B.life blob.old in let new = B.life blob.new in
+            QueuesAsked (non_zero_u16_get self.page_size) self.batch self.full_pages
+            queue.old.items queue.new.items old.present new.present }
         ensures page_size { hand.new.page_size ≡ hand.old.page_size }
         ensures queue { IsQueue self.batch self.full_pages queue.new.items }
         ensures batches { let P = non_zero_u16_get self.page_size in

@@ -8,7 +8,8 @@ ghost use Rattle.disk.specs.Disk.{Disk};
 ghost use Rattle.paged_read.specs.Failures.{NoneFailed};
 ghost use Rattle.paged_read.specs.ReadAhead.{after_batch, ReadsBatches};
 ghost use Rattle.paged_read.specs.Reads.{LookLeaves};
-ghost use Rattle.paged_read.specs.Replay.{advanced, CanReplay, CopyToBytesGoes, CopyToSliceGoes};
+ghost use Rattle.paged_read.specs.Replay.{advanced, AsksForQueue, CanReplay, CopyToBytesGoes};
+ghost use Rattle.paged_read.specs.Replay.{CopyToSliceGoes};
 ghost use Rattle.paged_read.specs.Replay.{end_of, EnsureCosts, EnsureGoes, FillsOnce, Gives};
 ghost use Rattle.paged_read.specs.Replay.{IsReadAhead, IsReplayOf, new_replay, ReplaysOn, Seeks};
 ghost use Rattle.paged_read.specs.Snapshots.{IsTailOf};
@@ -269,6 +270,7 @@ impl<B: Blob, H: Sum> Replay<B, H> {
         ensures idle { self.old.tail.full_pages * self.old.tail.page_size ≤ end_of self.old
             → B.life blob.new ≡ B.life blob.old }
         ensures can { CanReplay self.new (B.life blob.new).present }
+        ensures asked { AsksForQueue self.old self.new (B.life blob.old) (B.life blob.new) }
         ensures looked { Looked (B.life blob.old) (B.life blob.new) }
     {
         let end = self.end();

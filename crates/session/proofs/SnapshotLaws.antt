@@ -655,7 +655,7 @@ no_snap_steps sum was index offset len life none = λ P before all.
 -- the writer stays as it is
 pub sound_on : (sum : List ℕ → ℕ) (o : Option WriterState) (old new : Life) → LeavesAllWriters sum old new → HasSoundWriter sum o old.present → HasSoundWriter sum o new.present
 sound_on sum None old new stay sound = tt
-sound_on sum (Some w) old new stay sound = (stay w sound).sound
+sound_on sum (Some w) old new stay sound = (stay w (inl sound)).sound sound
 
 pub fits_on : (o : Option WriterState) (cache after : CacheState) (old new : Life) → LeavesAllReads cache after old new → FitsWriter o cache old.present → FitsWriter o after new.present
 fits_on None cache after old new stay fits = tt

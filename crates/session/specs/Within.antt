@@ -3,6 +3,7 @@ use Rattle.std.specs.Prelude.{◌≡◌, ◌⊎◌, ◌<◌, ◌≤◌, ◌^◌,
 use Rattle.disk.specs.Disk.{Life}
 use Rattle.cache.specs.CacheState.{CacheState}
 use Rattle.crash.specs.Looks.{Looked}
+use Rattle.paged_read.specs.Failures.{NoneFailed}
 use Rattle.paged.specs.declared.within.Refusal.{Refusal}
 use Rattle.paged.specs.declared.within.Refusal.TheVariants.{WouldCut, Failed}
 use Rattle.paged.specs.Within.{PutsAtStake, MayGo}
@@ -13,8 +14,9 @@ use Rattle.disk.specs.declared.error.Error.TheVariants.{OffsetOverflow}
 use Rattle.page.specs.Geometry.{adjusted}
 
 -- a recovery within a limit that begins a session, by its answer: if one begins, no more was to go
--- than is allowed. If more would go, the answer is that number, and the blob was only looked at.
--- After an error the blob was only looked at, unless no more was to go than is allowed
+-- than is allowed. If more would go, the answer is that number, the blob was only looked at, and no
+-- device call failed. After an error the blob was only looked at, unless no more was to go than is
+-- allowed
 abbrev pub BeginsWithin : (List ℕ → ℕ) → CacheState → (capacity allowed : ℕ) → Life → Life
     → Result SessionState Refusal → Type 0
 BeginsWithin sum cache capacity allowed old new (Ok now) =
@@ -22,6 +24,7 @@ BeginsWithin sum cache capacity allowed old new (Ok now) =
     × BeginsBy sum cache capacity old new (Ok now)
 BeginsWithin sum cache capacity allowed old new (Err (WouldCut cut)) =
     PutsAtStake sum cache.page_size old.present.readable cut × (allowed < cut) × Looked old new
+    × NoneFailed old.present new.present
 BeginsWithin sum cache capacity allowed old new (Err (Failed e)) =
     (Looked old new ⊎ MayGo sum cache.page_size allowed old.present.readable)
     × BeginsBy sum cache capacity old new (Err e)

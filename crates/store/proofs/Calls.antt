@@ -156,6 +156,7 @@ module _ (sum own : List ℕ → ℕ) where
         whole = subst AreChanges recovered.same made.0;
         changes = sym recovered.same ∙ recovered.given;
         committed = record { content = content now.journal new.present.readable; are = refl; all = recovered.all };
+        served = recovered.served;
         back = back_of cache.page_size old.present found new now back recovered.same held;
       }
 

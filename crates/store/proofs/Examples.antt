@@ -21,7 +21,7 @@ use Rattle.crash.proofs.Disks.{base_is_image}
 use Rattle.writer_state.specs.Sound.{content}
 use Rattle.writer_state.specs.WriterState.{WriterState}
 use Rattle.writer_state.specs.declared.sync_state.SyncState.TheVariants.{Clean}
-use Rattle.paged.specs.Calls.{IsSameWriter}
+use Rattle.paged.specs.Calls.{IsSameWriter, NoneRefused}
 use Rattle.journal.specs.Calls.{JournalCallLeaves, JournalCrashLeaves}
 use Rattle.journal.specs.Frame.{frame, frames, records}
 use Rattle.journal.specs.Journal.{IsJournal, JournalHasRecovered, records_in}
@@ -373,14 +373,15 @@ no_old_value_is_brought sum own P was new now were same is back =
 
 -- a store was opened of a blank blob
 pub a_blank_one_was_opened : (sum own : List ℕ → ℕ) (after : CacheState) (new : Life) (now : StoreState) → IsStore sum own now after new → now.journal.page_size ≡ 4
-    → changes_of own now new ≡ [] → HasOpenedStore sum own 4 after blank new now
-a_blank_one_was_opened sum own after new now store is none = record {
+    → changes_of own now new ≡ [] → NoneRefused blank new.present → HasOpenedStore sum own 4 after blank new now
+a_blank_one_was_opened sum own after new now store is none served = record {
   store = store;
   page_size = is;
   whole = subst AreChanges (sym none) tt;
   changes = none ∙ sym (no_records own);
   committed = subst (λ (l : List Bytes). AreCommitted sum own 4 l new.present) (sym none) (none_committed sum own 4 new.present);
   back = blank_brings_back sum own new now store.held;
+  served = served;
 }
 
 -- an opening doesn't forget a put that was committed

@@ -15,7 +15,7 @@ use Rattle.cache.specs.Pages.{IsFresh}
 use Rattle.crash.specs.Distinct.{IsDistinct}
 use Rattle.crash.specs.Kept.{Through}
 use Rattle.writer_state.specs.WriterState.{WriterState}
-use Rattle.paged.specs.Calls.{AsksAtMost, IsSameWriter, sync_calls, wait_calls}
+use Rattle.paged.specs.Calls.{AsksAtMost, IsSameWriter, NoneRefused, sync_calls, wait_calls}
 use Rattle.journal.specs.Calls.{CrashRecoversJournal, JournalCallLeaves, JournalCrashLeaves}
 use Rattle.journal.specs.Frame.{IsPrefix, frame, records}
 use Rattle.journal.specs.Journal.{AppendRecordGoes, CommitGoes, CommitsAll, IsJournal}
@@ -142,6 +142,8 @@ pub record HasOpenedStore (sum own : List ℕ → ℕ) (P : ℕ) (after : CacheS
   pub changes : changes_of own now new ≡ records own (text sum P was.readable)
   pub committed : AreCommitted sum own P (changes_of own now new) new.present
   pub back : BringsBack sum own P was new now
+  -- no device call failed
+  pub served : NoneRefused was new.present
 
 -- the journal was recovered, and brought these records
 abbrev pub WasRecovered : (sum own : List ℕ → ℕ) → (cache after : CacheState) → Life → Life
@@ -150,7 +152,8 @@ WasRecovered sum own cache after old new = (w : WriterState) × (found : List By
     × JournalHasRecovered sum own cache after old new w found
 
 -- an opening, by its answer: the journal was recovered, and a record of the blob is no change, or
--- memory for the map was refused; or the journal wasn't recovered
+-- memory for the map was refused; or the journal wasn't recovered. Where it was recovered no device
+-- call failed
 abbrev pub OpenStoreGoes : (sum own : List ℕ → ℕ) → (cache after : CacheState) → (capacity : ℕ)
     → Life → Life → Result StoreState OpenError → Type 0
 OpenStoreGoes sum own cache after capacity old new (Ok now) =

@@ -106,7 +106,7 @@ told g c =
 
 pub returns-clause-goes : goal.returns-clause-goes
 unfolding answer
-returns-clause-goes g c = told g (goal.at.returns-clause-goes g c).After-size_of-len
+returns-clause-goes g c = (told g (goal.at.returns-clause-goes g c).After-size_of-len, c.in_ok-prefix.ensures.looks.2)
 
 pub returns-clause-foretells : goal.returns-clause-foretells
 unfolding answer

@@ -11,6 +11,7 @@ use Rattle.paged.proofs.Surveying.{last_of, look_fault_later, look_within, only_
 use Rattle.paged.proofs.outlook.look_to_last.Given.{Over}
 use Rattle.paged.proofs.outlook.look_to_last.Goals as goal
 use Rattle.paged.proofs.outlook.look_to_last.Goals.{After-last_is_torn}
+use Rattle.paged_read.specs.Failures.{none_failed_joins}
 
 -- the call only looks
 looks : (g : Over) (c : After-last_is_torn g) → Looked (g.B.Blob.life c.args.blob.now) (g.B.Blob.life c.last_is_torn.new.blob)
@@ -21,7 +22,7 @@ looks g c =
 
 pub last_is_torn-requires-clause-is : goal.last_is_torn-requires-clause-is
 last_is_torn-requires-clause-is g c =
-    subst (λ (l : List ℕ). IsOutlook g.H.Sum.sum_of (non_zero_u16_get c.args.page_size) l c.in_ok-outlook.outlook) (sym (looked_readable (g.B.Blob.life c.args.blob.now) (g.B.Blob.life c.look.new.blob) c.look.ensures.looked)) c.in_ok-outlook.ensures.goes
+    subst (λ (l : List ℕ). IsOutlook g.H.Sum.sum_of (non_zero_u16_get c.args.page_size) l c.in_ok-outlook.outlook) (sym (looked_readable (g.B.Blob.life c.args.blob.now) (g.B.Blob.life c.look.new.blob) c.look.ensures.looked)) c.in_ok-outlook.ensures.goes.0
 
 pub last_is_torn-requires-clause-fits : goal.last_is_torn-requires-clause-fits
 last_is_torn-requires-clause-fits g c =
@@ -63,7 +64,7 @@ returns-in_err-torn-clause-looks g c =
     let mid = g.B.Blob.life c.look.new.blob in
     let p = err_from_is_err_and c.from_residual-in_err-torn.result c.from_residual-in_err-torn.ensures.1 in
     rw (p.1, p.2)
-    (look_fault_later g.H.Sum.sum_of P (length mid.present.readable) (has_torn_page g.H.Sum.sum_of P mid.present.readable c.in_ok-outlook.outlook) (g.B.Blob.life c.args.blob.now) mid (g.B.Blob.life c.last_is_torn.new.blob) c.in_err-torn.field-0.0 (omega arith) c.look.ensures.looked c.in_err-torn.ensures.tells)
+    (look_fault_later g.H.Sum.sum_of P (length mid.present.readable) (has_torn_page g.H.Sum.sum_of P mid.present.readable c.in_ok-outlook.outlook) (g.B.Blob.life c.args.blob.now) mid (g.B.Blob.life c.last_is_torn.new.blob) c.in_err-torn.field-0.0 (omega arith) c.look.ensures.looked c.in_ok-outlook.ensures.goes.1 c.in_err-torn.ensures.tells)
 
 -- the reads, whether the last page could be read or not
 reads : (g : Over) (c : After-last_is_torn g) → let P = non_zero_u16_get c.args.page_size in
@@ -101,8 +102,9 @@ returns-in_err-torn-clause-looked g c = looks g (goal.at.returns-in_err-torn-cla
 
 pub returns-clause-looks : goal.returns-clause-looks
 returns-clause-looks g c = (
-  c.in_ok-outlook.ensures.goes,
+  c.in_ok-outlook.ensures.goes.0,
   c.in_ok-torn.ensures.tells.0 ∙ ap (λ (l : List ℕ). has_torn_page g.H.Sum.sum_of (non_zero_u16_get c.args.page_size) l c.in_ok-outlook.outlook) (looked_readable (g.B.Blob.life c.args.blob.now) (g.B.Blob.life c.look.new.blob) c.look.ensures.looked),
+  none_failed_joins (g.B.Blob.life c.args.blob.now).present (g.B.Blob.life c.look.new.blob).present (g.B.Blob.life c.last_is_torn.new.blob).present c.in_ok-outlook.ensures.goes.1 c.in_ok-torn.ensures.tells.2,
 )
 
 pub returns-clause-reads : goal.returns-clause-reads

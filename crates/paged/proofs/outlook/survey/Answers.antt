@@ -12,6 +12,7 @@ use Rattle.paged.proofs.Surveying.{beyond_reads, kept_within, later_fault, leave
 use Rattle.paged.proofs.outlook.survey.Given.{Over}
 use Rattle.paged.proofs.outlook.survey.Goals as goal
 use Rattle.paged.proofs.outlook.survey.Goals.{After-look_beyond}
+use Rattle.paged_read.specs.Failures.{none_failed_joins}
 
 last_looks : (g : Over) (c : After-look_beyond g) → Looked (g.B.Blob.life c.look_to_last.new.blob) (g.B.Blob.life c.look_beyond.new.blob)
 last_looks g c =
@@ -87,7 +88,7 @@ returns-in_err-beyond-clause-goes g c =
     ) in
     let p = err_from_is_err_and c.from_residual-in_err-beyond.result c.from_residual-in_err-beyond.ensures.1 in
     rw (p.1, p.2)
-    (later_fault g.H.Sum.sum_of P (n * (P + 12)) (beyond_of g.H.Sum.sum_of P c.in_ok-outlook.outlook.pages n mid.present.readable) old mid (g.B.Blob.life c.look_beyond.new.blob) c.in_err-beyond.field-0.0 there c.look_to_last.ensures.looked c.in_err-beyond.ensures.counts)
+    (later_fault g.H.Sum.sum_of P (n * (P + 12)) (beyond_of g.H.Sum.sum_of P c.in_ok-outlook.outlook.pages n mid.present.readable) old mid (g.B.Blob.life c.look_beyond.new.blob) c.in_err-beyond.field-0.0 there c.look_to_last.ensures.looked c.in_ok-outlook.ensures.looks.2 c.in_err-beyond.ensures.counts)
 
 pub returns-in_err-beyond-clause-costs : goal.returns-in_err-beyond-clause-costs
 returns-in_err-beyond-clause-costs g c =
@@ -106,8 +107,9 @@ pub returns-clause-goes : goal.returns-clause-goes
 returns-clause-goes g c =
     let P = non_zero_u16_get c.args.page_size in
     let whole : c.args.size / c.physical_page_size.result ≡ length (g.B.Blob.life c.args.blob.now).present.readable / (P + 12) = ap (λ (n : ℕ). c.args.size / n) c.physical_page_size.ensures ∙ ap (λ (n : ℕ). n / (P + 12)) c.requires.length in
-    survey_is g.H.Sum.sum_of P (c.args.size / c.physical_page_size.result) (g.B.Blob.life c.args.blob.now) (g.B.Blob.life c.look_to_last.new.blob) c.in_ok-outlook.outlook c.in_ok-outlook.torn (c.in_ok-beyond.beyond, c.in_ok-beyond.blank)
-    c.look_to_last.ensures.looked c.in_ok-outlook.ensures.looks.0 c.in_ok-outlook.ensures.looks.1 whole c.in_ok-beyond.ensures.counts.0
+    (survey_is g.H.Sum.sum_of P (c.args.size / c.physical_page_size.result) (g.B.Blob.life c.args.blob.now) (g.B.Blob.life c.look_to_last.new.blob) c.in_ok-outlook.outlook c.in_ok-outlook.torn (c.in_ok-beyond.beyond, c.in_ok-beyond.blank)
+    c.look_to_last.ensures.looked c.in_ok-outlook.ensures.looks.0 c.in_ok-outlook.ensures.looks.1 whole c.in_ok-beyond.ensures.counts.0,
+    none_failed_joins (g.B.Blob.life c.args.blob.now).present (g.B.Blob.life c.look_to_last.new.blob).present (g.B.Blob.life c.look_beyond.new.blob).present c.in_ok-outlook.ensures.looks.2 c.in_ok-beyond.ensures.counts.2)
 
 pub returns-clause-foretells : goal.returns-clause-foretells
 returns-clause-foretells g c = foretold g.H.Sum.sum_of (non_zero_u16_get c.args.page_size) (g.B.Blob.life c.args.blob.now).present.readable c.in_ok-outlook.outlook c.in_ok-outlook.ensures.looks.0

@@ -9,7 +9,7 @@ use Rattle.page.specs.Page.{pieces, text}
 use Rattle.paged_read.specs.Prefix.{prefix_of, prefix_pages}
 use Rattle.paged.specs.Recovers.{Recovers}
 use Rattle.paged.proofs.Recoveries.{opened_size_le, finds_cause}
-use Rattle.paged.proofs.Recovered.{counted_length, kept_is, on_ok, opened_length, opened_count, opened_page_size, opened_positive, found_is, found_within, found_short, counted_text, no_work, CutToText, scanned_length, scanned_as_opened, recovers_unfound, recovers_end, recovers_keep}
+use Rattle.paged.proofs.Recovered.{counted_length, kept_is, on_ok, opened_length, opened_count, opened_page_size, opened_positive, found_is, found_within, found_short, counted_text, no_work, CutToText, scanned_length, scanned_as_opened, recovers_unfound, recovers_end, recovers_keep, recovers_served}
 use Rattle.paged.proofs.MendedTails.{recovers_mended}
 use Rattle.paged.proofs.Trims.{Owes, scanned_owe, recovers_owe, finds_looked}
 use Rattle.paged_read.specs.Searches.{ReadsWithin, scan_bytes}
@@ -23,6 +23,7 @@ use Rattle.paged.proofs.There.{recovered_sound}
 use Rattle.paged.proofs.recovery.recover_all.Given.{Over}
 use Rattle.paged.proofs.recovery.recover_all.Goals as goal
 use Rattle.paged.proofs.recovery.recover_all.Goals.{In_err-prefix, After-scan, After-size_of-text_size, After-truncate_all}
+use Rattle.paged.proofs.Causes.{none_refused_answered}
 
 pub scan-requires-clause-there : goal.scan-requires-clause-there
 scan-requires-clause-there g c =
@@ -86,7 +87,7 @@ returns-in_err-prefix-clause-recovers g c =
     let e = c.in_err-prefix.field-0.0 in
     let Q = non_zero_u16_get c.recovery.inside.page_size in
     let p = err_from_is_err_and c.from_residual-in_err-prefix.result c.from_residual-in_err-prefix.ensures.1 in
-    rw (p.1, p.2) (recovers_unfound sum cache c.args.capacity old new mid e c.in_ok-recovery.ensures.opens.log (finds_cause (prefix_of sum Q (pieces c.flushed_pages-pages.result (Q + 12) mid.present.readable)) mid new e c.in_err-prefix.ensures.finds))
+    rw (p.1, p.2) (recovers_unfound sum cache c.args.capacity old new mid e c.in_ok-recovery.ensures.opens.served (finds_cause (prefix_of sum Q (pieces c.flushed_pages-pages.result (Q + 12) mid.present.readable)) mid new e c.in_err-prefix.ensures.finds))
 
 -- what was opened, and looked at
 owes-looked : (g : Over) (c : In_err-prefix g) → Owes g.H.Sum.sum_of c.args.cache.now.page_size (g.B.Blob.life c.args.blob.now) (g.B.Blob.life c.scan.new.blob)
@@ -131,6 +132,7 @@ cuts g c =
       opened = opened;
       as_opened = c.in_ok-recovery.ensures.as_opened;
       looked = c.in_ok-prefix.ensures.finds.1;
+      served = none_refused_answered mid.present (life c.scan.new.blob).present c.in_ok-prefix.ensures.finds.2;
       text = counted_text sum cache.page_size c.size_of-text_size.result Q mid.present.readable p same
           (found_is sum cache c.args.capacity old mid w opened c.flushed_pages-pages.result Q p same c.flushed_pages-pages.ensures c.in_ok-prefix.ensures.finds.0) c.size_of-text_size.ensures;
     }
@@ -180,6 +182,12 @@ returns-clause-durable g c =
     let all = cuts g (goal.at.returns-clause-durable g c).After-size_of-text_size in
     let none = no_work sum w scanned.present (scanned_as_opened sum cache c.args.capacity n old mid scanned w all) in
     recovers_keep sum cache c.args.capacity n old mid scanned w all (life c.truncate_all.new.blob) c.truncate_all.result c.truncate_all.ensures.truncates (c.truncate_all.ensures.full none)
+
+pub returns-clause-served : goal.returns-clause-served
+returns-clause-served g c =
+    let life = g.B.Blob.life in
+    recovers_served g.H.Sum.sum_of c.args.cache.now c.args.capacity c.size_of-text_size.result (life c.args.blob.now) (life c.open_all.new.blob) (life c.scan.new.blob) c.in_ok-recovery.recovery (cuts g (goal.at.returns-clause-served g c).After-size_of-text_size) (life c.truncate_all.new.blob)
+    c.truncate_all.result c.truncate_all.ensures.truncates
 
 pub returns-clause-mended : goal.returns-clause-mended
 returns-clause-mended g c =

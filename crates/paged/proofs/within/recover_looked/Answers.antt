@@ -7,7 +7,7 @@ use Rattle.std.specs.Prelude.{if◌then◌else◌}
 use Rattle.paged.specs.Within.{at_stake}
 use Rattle.paged.proofs.Trims.{Owes, looked_owe}
 use Rattle.paged.proofs.Surveying.{stake_there}
-use Rattle.paged.proofs.LookedFirst.{none_owe, owe_after, recovers_after, may_cut}
+use Rattle.paged.proofs.LookedFirst.{look_recovers, none_owe, owe_after, recovers_after, may_cut}
 use Rattle.paged_read.specs.Searches.{ReadsWithin, scan_bytes}
 use Rattle.paged_read.proofs.Searching.{page_within}
 use Rattle.paged.specs.Outlook.{ReadsToLast}
@@ -16,6 +16,7 @@ use Rattle.paged.proofs.RecoveringCosts.{within_cut, within_looked, within_none}
 use Rattle.paged.proofs.within.recover_looked.Given.{Over}
 use Rattle.paged.proofs.within.recover_looked.Goals as goal
 use Rattle.paged.proofs.within.recover_looked.Goals.{In_err-adjusted_capacity, After-look_to_last, After-recover_text}
+use Rattle.paged.proofs.Causes.{none_refused_answered, none_refused_joins}
 
 refused : (n m : ℕ) → ¬ (n < m) → m ≤ n
 refused n m less = grind (arith, less)
@@ -61,7 +62,7 @@ returns-in_err-recovery-clause-recovers g c =
     let p = err_from_is_err_and c.from_residual-in_err-recovery.result c.from_residual-in_err-recovery.ensures.1 in
     rw (p.1, p.2) (
       inr (may_cut sum cache.page_size (non_zero_u16_get c.page_size-page_size.result) c.args.allowed c.at_stake-stake.result old.present.readable c.in_ok-outlook.outlook c.page_size-page_size.ensures c.in_ok-outlook.ensures.looks.0 (stake g (goal.at.returns-in_err-recovery-clause-recovers g c).After-recover_text) c.if-stake-allowed.false),
-      recovers_after sum cache c.args.capacity old (life c.look_to_last.new.blob) (life c.recover_text.new.blob) c.look_to_last.ensures.looked (Err c.in_err-recovery.field-0.0) (fits g k) c.in_err-recovery.ensures.recovers,
+      recovers_after sum cache c.args.capacity old (life c.look_to_last.new.blob) (life c.recover_text.new.blob) c.look_to_last.ensures.looked (none_refused_answered old.present (life c.look_to_last.new.blob).present c.in_ok-outlook.ensures.looks.2) (Err c.in_err-recovery.field-0.0) (fits g k) c.in_err-recovery.ensures.recovers,
     )
 
 pub returns-clause-recovers : goal.returns-clause-recovers
@@ -72,7 +73,7 @@ returns-clause-recovers g c =
     let old = life c.args.blob.now in
     let k = (goal.at.returns-clause-recovers g c).After-recover_text in (
       may_cut sum cache.page_size (non_zero_u16_get c.page_size-page_size.result) c.args.allowed c.at_stake-stake.result old.present.readable c.in_ok-outlook.outlook c.page_size-page_size.ensures c.in_ok-outlook.ensures.looks.0 (stake g (goal.at.returns-clause-recovers g c).After-recover_text) c.if-stake-allowed.false,
-      recovers_after sum cache c.args.capacity old (life c.look_to_last.new.blob) (life c.recover_text.new.blob) c.look_to_last.ensures.looked (Ok c.in_ok-recovery.recovery) (fits g k) c.in_ok-recovery.ensures.recovers,
+      recovers_after sum cache c.args.capacity old (life c.look_to_last.new.blob) (life c.recover_text.new.blob) c.look_to_last.ensures.looked (none_refused_answered old.present (life c.look_to_last.new.blob).present c.in_ok-outlook.ensures.looks.2) (Ok c.in_ok-recovery.recovery) (fits g k) c.in_ok-recovery.ensures.recovers,
     )
 
 -- what the recovery guarantees, whatever it answers
@@ -187,3 +188,19 @@ at_stake-stake-requires g c = record {
     stake_there g.H.Sum.sum_of (non_zero_u16_get c.page_size-page_size.result) (g.B.Blob.life c.args.blob.now).present.readable c.in_ok-outlook.outlook c.in_ok-outlook.ensures.looks.0 (sym c.in_ok-outlook.ensures.looks.1 ∙ torn),
   );
 }
+
+pub returns-in_err-outlook-clause-recovers : goal.returns-in_err-outlook-clause-recovers
+returns-in_err-outlook-clause-recovers g c =
+    let life = g.B.Blob.life in
+    let p = err_from_is_err_and c.from_residual-in_err-outlook.result c.from_residual-in_err-outlook.ensures.1 in
+    rw (p.1, p.2) (
+      inl c.look_to_last.ensures.looked,
+      look_recovers g.H.Sum.sum_of c.args.cache.now c.args.capacity (non_zero_u16_get c.page_size-page_size.result) (life c.args.blob.now) (life c.look_to_last.new.blob) c.in_err-outlook.field-0.0 c.in_err-outlook.ensures.looks,
+    )
+
+pub returns-clause-served : goal.returns-clause-served
+returns-clause-served g c =
+    let life = g.B.Blob.life in
+    let old = (life c.args.blob.now).present in
+    let mid = (life c.look_to_last.new.blob).present in
+    none_refused_joins old mid (life c.recover_text.new.blob).present (none_refused_answered old mid c.in_ok-outlook.ensures.looks.2) c.in_ok-recovery.ensures.served

@@ -5,7 +5,7 @@ use Rattle.paged.specs.Recovers.{Recovers}
 use Rattle.paged.proofs.Emptied.{opened_says}
 use Rattle.paged.proofs.MendedTails.{recovers_mended}
 use Rattle.paged.proofs.OpenedReads.{opened_fits, gives_id, gives_others}
-use Rattle.paged.proofs.Recovered.{opened_page_size, kept_readable, no_work, CutToText, scanned_length, scanned_as_opened, recovers_end, recovers_keep}
+use Rattle.paged.proofs.Recovered.{opened_page_size, kept_readable, no_work, CutToText, scanned_length, scanned_as_opened, recovers_end, recovers_keep, recovers_served}
 use Rattle.paged.proofs.There.{recovered_sound}
 use Rattle.paged.proofs.Trims.{Owes, recovers_owe}
 use Rattle.paged_read.specs.Searches.{ReadsWithin}
@@ -14,6 +14,7 @@ use Rattle.paged.proofs.RecoveringCosts.{cut_few, opens_alone, opens_and_cuts}
 use Rattle.paged.proofs.within.recover_text.Given.{Over}
 use Rattle.paged.proofs.within.recover_text.Goals as goal
 use Rattle.paged.proofs.within.recover_text.Goals.{After-truncate_all}
+use Rattle.paged.proofs.Causes.{none_refused_same}
 
 -- what is cut, and where its text ends
 cuts : (g : Over) (c : After-truncate_all g) → CutToText g.H.Sum.sum_of c.args.cache.now c.args.capacity c.args.len (g.B.Blob.life c.args.blob.now) (g.B.Blob.life c.open_all.new.blob) (g.B.Blob.life c.open_all.new.blob) c.in_ok-recovery.recovery
@@ -30,6 +31,7 @@ cuts g c =
       opened = opened;
       as_opened = c.in_ok-recovery.ensures.as_opened;
       looked = looked_start mid;
+      served = none_refused_same mid mid refl;
       text = c.requires.text ∙ ap length (sym (opened_says sum P old.present.readable c.requires.positive)) ∙ ap (λ l. length (text sum P l)) (sym readable);
     }
 
@@ -65,6 +67,12 @@ returns-clause-durable g c =
     let all = cuts g (goal.at.returns-clause-durable g c).After-truncate_all in
     let none = no_work sum w mid.present (scanned_as_opened sum cache c.args.capacity n old mid mid w all) in
     recovers_keep sum cache c.args.capacity n old mid mid w all (life c.truncate_all.new.blob) c.truncate_all.result c.truncate_all.ensures.truncates (c.truncate_all.ensures.full none)
+
+pub returns-clause-served : goal.returns-clause-served
+returns-clause-served g c =
+    let life = g.B.Blob.life in
+    let mid = life c.open_all.new.blob in
+    recovers_served g.H.Sum.sum_of c.args.cache.now c.args.capacity c.args.len (life c.args.blob.now) mid mid c.in_ok-recovery.recovery (cuts g (goal.at.returns-clause-served g c).After-truncate_all) (life c.truncate_all.new.blob) c.truncate_all.result c.truncate_all.ensures.truncates
 
 pub returns-clause-mended : goal.returns-clause-mended
 returns-clause-mended g c =

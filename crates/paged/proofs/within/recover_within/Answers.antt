@@ -10,6 +10,7 @@ returns-clause-goes g c =
       ids = is.ids;
       writer = new_writer g.H.Sum.sum_of c.args.cache.now (g.B.Blob.life c.recover_looked.new.blob) c.recover_looked.result is.there is.within is.id is.mended;
       durable = is.durable;
+      served = is.served;
     }
 
 pub returns-clause-ready : goal.returns-clause-ready

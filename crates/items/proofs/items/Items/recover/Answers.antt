@@ -53,7 +53,7 @@ returns-in-Ok-clause-goes g c =
     let is_ready = was.ready c.requires.fresh in
     let goes = c.in-Ok.ensures in
     recovers_so g.H.Sum.sum_of (non_zero_usize_get c.args.size) c.args.cache.now c.truncate.new.cache c.args.capacity (g.B.Blob.life c.args.blob.now) (g.B.Blob.life c.truncate.new.blob) c.new.result c.args.size.ok (g.met.B.Blob.readable_is_image c.args.blob.now)
-    (recovered_items g.H.Sum.sum_of (non_zero_usize_get c.args.size) (c.size.result / c.get-len.result * c.get-len.result) c.args.capacity c.args.cache.now c.truncate.new.cache (g.B.Blob.life c.args.blob.now) (g.B.Blob.life c.recover.new.blob) (g.B.Blob.life c.truncate.new.blob) c.in_ok-recovery.recovery c.in-Ok.recovery c.new.result c.args.size.ok was.goes.answers was.goes.writer.id (cut g at) (c.new.ensures.writer ∙ c.from.ensures) c.new.ensures.size goes.goes.answers (goes.ready is_ready) (goes.goes.left is_ready.sound) (goes.goes.durable is_ready.sound))
+    (recovered_items g.H.Sum.sum_of (non_zero_usize_get c.args.size) (c.size.result / c.get-len.result * c.get-len.result) c.args.capacity c.args.cache.now c.truncate.new.cache (g.B.Blob.life c.args.blob.now) (g.B.Blob.life c.recover.new.blob) (g.B.Blob.life c.truncate.new.blob) c.in_ok-recovery.recovery c.in-Ok.recovery c.new.result c.args.size.ok was.goes.answers was.goes.writer.id (cut g at) (c.new.ensures.writer ∙ c.from.ensures) c.new.ensures.size goes.goes.answers (goes.ready is_ready) (goes.goes.left is_ready.sound) (goes.goes.durable is_ready.sound) was.goes.served)
     (λ passes. cc (was.goes.overflow passes))
 
 pub returns-in-Ok-clause-leaves : goal.returns-in-Ok-clause-leaves
@@ -62,7 +62,7 @@ returns-in-Ok-clause-leaves g c = left g (goal.at.returns-in-Ok-clause-leaves g 
 pub returns-in-Err-clause-goes : goal.returns-in-Err-clause-goes
 returns-in-Err-clause-goes g c =
     recovers_not g.H.Sum.sum_of (non_zero_usize_get c.args.size) c.args.cache.now c.truncate.new.cache c.args.capacity (g.B.Blob.life c.args.blob.now) (g.B.Blob.life c.truncate.new.blob) c.in-Err.error
-    (cut_refused g.H.Sum.sum_of (c.size.result / c.get-len.result * c.get-len.result) c.args.capacity c.args.cache.now (g.B.Blob.life c.args.blob.now) (g.B.Blob.life c.recover.new.blob) (g.B.Blob.life c.truncate.new.blob) c.in_ok-recovery.recovery c.in-Err.error c.in_ok-recovery.ensures.goes.answers c.in-Err.ensures.goes.answers)
+    (cut_refused g.H.Sum.sum_of (c.size.result / c.get-len.result * c.get-len.result) c.args.capacity c.args.cache.now (g.B.Blob.life c.args.blob.now) (g.B.Blob.life c.recover.new.blob) (g.B.Blob.life c.truncate.new.blob) c.in_ok-recovery.recovery c.in-Err.error c.in_ok-recovery.ensures.goes.answers c.in_ok-recovery.ensures.goes.served c.in-Err.ensures.goes.answers)
     (λ passes. absurd (cc (c.in_ok-recovery.ensures.goes.overflow passes)))
 
 pub returns-in-Err-clause-leaves : goal.returns-in-Err-clause-leaves

@@ -80,7 +80,7 @@ returns-in_err-recovery-2-clause-goes g c =
     let e = c.in_err-recovery-2.field-0.0 in
     let answer = c.from_residual-in_err-recovery-2 in
     recovers_not sum own cache after c.args.capacity old new e answer.result answer.ensures.1
-    (recovery_refused sum own cache after c.args.capacity old (g.B.Blob.life c.recover_keeping.new.blob) new c.in_ok-recovery.recovery e answer.result answer.ensures.1 c.in_ok-recovery.ensures.goes.goes.answers c.in_err-recovery-2.ensures.trims)
+    (recovery_refused sum own cache after c.args.capacity old (g.B.Blob.life c.recover_keeping.new.blob) new c.in_ok-recovery.recovery e answer.result answer.ensures.1 c.in_ok-recovery.ensures.goes.goes.answers c.in_ok-recovery.ensures.goes.goes.served c.in_err-recovery-2.ensures.trims)
 
 pub returns-in_err-recovery-2-clause-leaves : goal.returns-in_err-recovery-2-clause-leaves
 returns-in_err-recovery-2-clause-leaves g c = left g (goal.at.returns-in_err-recovery-2-clause-leaves g c).After-trim
@@ -99,7 +99,7 @@ returns-clause-goes g c =
     recovers_so sum own c.args.cache.now c.trim.new.cache c.args.capacity old new c.new.result c.in_ok-recovery-2.found (g.met.B.Blob.readable_is_image c.args.blob.now)
     (subst (λ (w : WriterState). JournalHasRecovered sum own c.args.cache.now c.trim.new.cache old new w found) (sym is)
     (recovery_goes sum own c.args.cache.now c.trim.new.cache c.args.capacity old mid new c.in_ok-recovery.recovery now found recovered.answers recovered.writer.id recovered.durable
-    (trim-keeps g (goal.at.returns-clause-goes g c).After-trim) c.in_ok-recovery-2.ensures.trims))
+    (trim-keeps g (goal.at.returns-clause-goes g c).After-trim) c.in_ok-recovery-2.ensures.trims recovered.served))
 
 pub returns-clause-ready : goal.returns-clause-ready
 returns-clause-ready g c = (returns-clause-goes g c).answers.journal

@@ -9,7 +9,7 @@ use Rattle.paged_read.specs.Prefix.{last_prefix, HasBytes}
 use Rattle.paged.specs.Recovery.{Opens, opened_prefix}
 use Rattle.crash.specs.Looks.{looked_start}
 use Rattle.paged.proofs.Mends.{mend_fits, opened_back, opened_cause, opened_trims}
-use Rattle.paged.proofs.Recoveries.{opened_is, opened_last, opened_reach, opened_kept, opened_size_le, pages_count, fits_prefix, opens_cause}
+use Rattle.paged.proofs.Recoveries.{finds_cause, opened_is, opened_last, opened_reach, opened_kept, opened_size_le, pages_count, fits_prefix, opens_cause}
 use Rattle.paged.specs.RecoveryCosts.{OpenCosts, opened_pages}
 use Rattle.paged.proofs.QuietCuts.{open_none, open_reads, opens_down}
 use Rattle.paged.proofs.Opened.{opens_end, opened_there, opens_as_opened, opens_mended}
@@ -18,6 +18,7 @@ use Rattle.paged.proofs.Offsets.{opens_within, adjusted_whole, adjusted_room}
 use Rattle.paged.proofs.recovery.Recovery+B+H.open_all.Given.{Over}
 use Rattle.paged.proofs.recovery.Recovery+B+H.open_all.Goals as goal
 use Rattle.paged.proofs.recovery.Recovery+B+H.open_all.Goals.{In_err-capacity, In_err-last, After-keep_pages, After-at_prefix}
+use Rattle.paged.proofs.Causes.{none_refused_answered}
 
 pub pages_of-requires : goal.pages_of-requires
 pages_of-requires g c =
@@ -41,6 +42,15 @@ keep_pages-requires-clause-fits g c =
     mend_fits g.H.Sum.sum_of c.args.cache.now.page_size (non_zero_u16_get c.page_size-page_size.result) c.args.size c.physical_page_size-physical_page_size.result (g.B.Blob.life c.args.blob.now).present.readable c.in_ok-last.last c.in_ok-last.bad
     c.page_size-page_size.ensures c.physical_page_size-physical_page_size.ensures c.requires.length c.in_ok-last.ensures.finds_last.0 c.in_ok-last.ensures.finds_last.2 c.ranges.size.fits
 
+pub returns-in_err-last-clause-opens : goal.returns-in_err-last-clause-opens
+returns-in_err-last-clause-opens g c =
+    let old = g.B.Blob.life c.args.blob.now in
+    let new = g.B.Blob.life c.last_pages.new.blob in
+    let e = c.in_err-last.field-0.0 in
+    let p = last_prefix g.H.Sum.sum_of (non_zero_u16_get c.page_size-page_size.result) (c.args.size / c.physical_page_size-physical_page_size.result) old.present.readable in
+    let q = err_from_is_err_and c.from_residual-in_err-last.result c.from_residual-in_err-last.ensures.1 in
+    rw (q.1, q.2) (opens_cause g.H.Sum.sum_of c.args.cache.now c.args.capacity old new e (finds_cause p old new e c.in_err-last.ensures.finds_last))
+
 pub returns-in_err-sync_state-clause-opens : goal.returns-in_err-sync_state-clause-opens
 returns-in_err-sync_state-clause-opens g c =
     let life = g.B.Blob.life in
@@ -52,7 +62,7 @@ returns-in_err-sync_state-clause-opens g c =
     let new = life c.keep_pages.new.blob in
     let e = c.in_err-sync_state.field-0.0 in
     let cause = opened_cause sum P (non_zero_u16_get c.page_size-page_size.result) c.args.size physical old.present.readable c.in_ok-last.last c.in_ok-last.bad c.page_size-page_size.ensures c.physical_page_size-physical_page_size.ensures c.requires.length
-    c.in_ok-last.ensures.finds_last.0 c.in_ok-last.ensures.finds_last.2 old mid new c.in_ok-last.ensures.finds_last.1 refl c.pages_of.result (c.pages_of.result * physical) c.pages_of.ensures refl e c.ranges.size.fits c.in_err-sync_state.ensures.keeps in
+    c.in_ok-last.ensures.finds_last.0 c.in_ok-last.ensures.finds_last.2 old mid new c.in_ok-last.ensures.finds_last.1 (none_refused_answered old.present mid.present c.in_ok-last.ensures.finds_last.3) refl c.pages_of.result (c.pages_of.result * physical) c.pages_of.ensures refl e c.ranges.size.fits c.in_err-sync_state.ensures.keeps in
     let q = err_from_is_err_and c.from_residual-in_err-sync_state.result c.from_residual-in_err-sync_state.ensures.1 in
     rw (q.1, q.2) (opens_cause sum c.args.cache.now c.args.capacity old new e cause)
 
@@ -133,7 +143,7 @@ owes g c =
     let new = life c.keep_pages.new.blob in
     opens_owe sum P old new (omega (arith, c.page_size-page_size.result.ok, c.page_size-page_size.ensures)) (g.met.B.Blob.readable_is_image c.args.blob.now) (has g c)
     (opened_trims sum P (non_zero_u16_get c.page_size-page_size.result) c.args.size physical old.present.readable c.in_ok-last.last c.in_ok-last.bad c.page_size-page_size.ensures c.physical_page_size-physical_page_size.ensures c.requires.length
-    c.in_ok-last.ensures.finds_last.0 c.in_ok-last.ensures.finds_last.2 old mid new c.in_ok-last.ensures.finds_last.1 refl c.pages_of.result (c.pages_of.result * physical) c.pages_of.ensures refl c.keep_pages.result c.keep_pages.ensures.keeps)
+    c.in_ok-last.ensures.finds_last.0 c.in_ok-last.ensures.finds_last.2 old mid new c.in_ok-last.ensures.finds_last.1 (none_refused_answered old.present mid.present c.in_ok-last.ensures.finds_last.3) refl c.pages_of.result (c.pages_of.result * physical) c.pages_of.ensures refl c.keep_pages.result c.keep_pages.ensures.keeps)
 
 pub returns-in_err-sync_state-clause-floors : goal.returns-in_err-sync_state-clause-floors
 returns-in_err-sync_state-clause-floors g c = (owes g (goal.at.returns-in_err-sync_state-clause-floors g c).After-keep_pages).floors
@@ -197,7 +207,7 @@ opens g c =
     let bytes = subst (λ (n : ℕ). HasBytes n p.full_pages readable p.partial) c.page_size-page_size.ensures c.in_ok-last.ensures.bytes in
     let is = opened_is sum P Q c.args.size physical readable p c.page_size-page_size.ensures c.physical_page_size-physical_page_size.ensures c.requires.length c.in_ok-last.ensures.finds_last.0 in
     let back = opened_back sum P Q c.args.size physical readable p c.in_ok-last.bad c.page_size-page_size.ensures c.physical_page_size-physical_page_size.ensures c.requires.length c.in_ok-last.ensures.finds_last.0 c.in_ok-last.ensures.finds_last.2 old mid new
-    c.in_ok-last.ensures.finds_last.1 refl c.pages_of.result (c.pages_of.result * physical) c.pages_of.ensures refl s c.in_ok-sync_state.ensures.keeps in
+    c.in_ok-last.ensures.finds_last.1 (none_refused_answered old.present mid.present c.in_ok-last.ensures.finds_last.3) refl c.pages_of.result (c.pages_of.result * physical) c.pages_of.ensures refl s c.in_ok-sync_state.ensures.keeps in
     opens_end sum c.args.cache.now c.args.capacity old new s c.in_ok-capacity.capacity p c.at_prefix.result (g.met.B.Blob.starts_are_covered c.keep_pages.new.blob) g.met.H.Sum.small some small room is bytes back
     c.at_prefix.ensures.stands
 

@@ -36,6 +36,12 @@ returns-in_err-unsynced-clause-cuts g c =
     let at = (goal.at.returns-in_err-unsynced-clause-cuts g c).After-from-page_size in
     (within_unresized g.H.Sum.sum_of c.args.self.now c.args.size c.from-page_size.result (g.B.Blob.life c.args.blob.now) (page_is g at) (page_some g at) c.requires.opened c.requires.clean c.requires.less c.requires.part (tip_fits g at) (g.B.Blob.life c.resize_to.new.blob) c.in_err-unsynced.field-0.0 c.in_err-unsynced.ensures).0
 
+pub returns-in_err-unsynced-clause-shortens : goal.returns-in_err-unsynced-clause-shortens
+returns-in_err-unsynced-clause-shortens g c =
+    let at = (goal.at.returns-in_err-unsynced-clause-shortens g c).After-from-page_size in
+    let q = err_from_is_err_and c.from_residual.result c.from_residual.ensures.1 in
+    rw (q.1, q.2) (within_unresized g.H.Sum.sum_of c.args.self.now c.args.size c.from-page_size.result (g.B.Blob.life c.args.blob.now) (page_is g at) (page_some g at) c.requires.opened c.requires.clean c.requires.less c.requires.part (tip_fits g at) (g.B.Blob.life c.resize_to.new.blob) c.in_err-unsynced.field-0.0 c.in_err-unsynced.ensures).1
+
 pub read_value-requires-clause-fits : goal.read_value-requires-clause-fits
 read_value-requires-clause-fits g c =
     let at = (goal.at.read_value-requires-clause-fits g c).After-from-page_size in

@@ -1,4 +1,4 @@
-use Rattle.paged.proofs.Answering.{ready_cut}
+use Rattle.paged.proofs.Answering.{cut_as_opened, cut_usable, ready_cut}
 use Rattle.paged.proofs.truncate.Recovery+B+H.truncate.Goals as goal
 
 pub returns-clause-goes : goal.returns-clause-goes
@@ -15,6 +15,8 @@ returns-clause-goes g c =
       durable = is.durable;
       exact = is.exact;
       full = is.full;
+      as_opened = cut_as_opened g.H.Sum.sum_of c.args.size c.args.self (g.B.Blob.life c.args.blob.now) (g.B.Blob.life c.truncate_all.new.blob) c.truncate_all.result is.truncates is.consistent;
+      usable = λ can fresh. cut_usable g.H.Sum.sum_of c.args.self c.args.cache.now c.truncate_all.new.cache (g.B.Blob.life c.args.blob.now) (g.B.Blob.life c.truncate_all.new.blob) c.truncate_all.result is.consistent is.can_read is.fresh_ids can fresh;
     }
 
 pub returns-clause-ready : goal.returns-clause-ready

@@ -175,6 +175,9 @@ returns-clause-there g c = let at = (goal.at.returns-clause-there g c).After-syn
 pub returns-clause-within : goal.returns-clause-within
 returns-clause-within g c = let at = (goal.at.returns-clause-within g c).After-sync_written in (ended_owes g c (begun g at) (written g at (Ok tt) c.in_ok-sync_written.was)).within
 
+pub returns-clause-consistent : goal.returns-clause-consistent
+returns-clause-consistent g c = let at = (goal.at.returns-clause-consistent g c).After-sync_written in (ended_owes g c (begun g at) (written g at (Ok tt) c.in_ok-sync_written.was)).consistent
+
 pub returns-clause-calls : goal.returns-clause-calls
 returns-clause-calls g c = let at = (goal.at.returns-clause-calls g c).After-sync_written in (ended_owes g c (begun g at) (written g at (Ok tt) c.in_ok-sync_written.was)).calls
 

@@ -7,7 +7,7 @@ use Rattle.paged_read.specs.Searches.{scan_bytes}
 use Rattle.paged_read.proofs.ReadLaws.{look_leaves}
 use Rattle.paged_read.proofs.Scanning.{scan_counts_text}
 use Rattle.paged.specs.Scans.{flushed_pages, IdlesAt}
-use Rattle.paged.proofs.Recovered.{looked_as_opened}
+use Rattle.paged.proofs.Readiness.{look_stays_ready}
 use Rattle.paged.proofs.Scanned.{scan_answers, scan_looks, sound_scan}
 use Rattle.paged.proofs.writer.Writer.recoverable_prefix_len.Given.{Over}
 use Rattle.paged.proofs.writer.Writer.recoverable_prefix_len.Goals as goal
@@ -61,5 +61,6 @@ returns-clause-costs g c =
       idle = subst (λ (n : ℕ). scan_start P w.full_pages n c.args.proven ≡ n → IdlesAt P n old new c.scan_to.result) c.flushed_pages.ensures c.scan_to.ensures.idle;
     }
 
-pub returns-clause-opened : goal.returns-clause-opened
-returns-clause-opened g c = looked_as_opened g.H.Sum.sum_of c.args.self.now (g.B.Blob.life c.args.blob.now) (g.B.Blob.life c.scan_to.new.blob) (looks g (goal.at.returns-clause-opened g c).After-scan_to)
+pub returns-clause-ready : goal.returns-clause-ready
+returns-clause-ready g c = λ cache.
+    look_stays_ready (g.B.Blob.life c.args.blob.now) (g.B.Blob.life c.scan_to.new.blob) (looks g (goal.at.returns-clause-ready g c).After-scan_to) g.H.Sum.sum_of c.args.self.now cache

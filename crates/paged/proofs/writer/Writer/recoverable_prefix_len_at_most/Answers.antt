@@ -3,7 +3,7 @@ use Rattle.crash.specs.Looks.{Looked}
 use Rattle.paged_read.specs.Scans.{scan_end, scan_to}
 use Rattle.paged_read.proofs.ReadLaws.{look_leaves}
 use Rattle.paged.specs.Scans.{flushed_pages}
-use Rattle.paged.proofs.Recovered.{looked_as_opened}
+use Rattle.paged.proofs.Readiness.{look_stays_ready}
 use Rattle.paged.proofs.Scanned.{scan_looks}
 use Rattle.paged.proofs.writer.Writer.recoverable_prefix_len_at_most.Given.{Over}
 use Rattle.paged.proofs.writer.Writer.recoverable_prefix_len_at_most.Goals as goal
@@ -28,5 +28,6 @@ returns-clause-leaves g c = look_leaves g.H.Sum.sum_of (g.B.Blob.life c.args.blo
 pub returns-clause-costs : goal.returns-clause-costs
 returns-clause-costs g c = record { reads = c.scan_first.ensures.reads }
 
-pub returns-clause-opened : goal.returns-clause-opened
-returns-clause-opened g c = looked_as_opened g.H.Sum.sum_of c.args.self.now (g.B.Blob.life c.args.blob.now) (g.B.Blob.life c.scan_first.new.blob) (looks g (goal.at.returns-clause-opened g c).After-scan_first)
+pub returns-clause-ready : goal.returns-clause-ready
+returns-clause-ready g c = λ cache.
+    look_stays_ready (g.B.Blob.life c.args.blob.now) (g.B.Blob.life c.scan_first.new.blob) (looks g (goal.at.returns-clause-ready g c).After-scan_first) g.H.Sum.sum_of c.args.self.now cache

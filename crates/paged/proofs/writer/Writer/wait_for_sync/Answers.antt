@@ -1,7 +1,8 @@
 use Rattle.std.proofs.lemmas.Result.{err_from_is_err_and}
 use Rattle.std.proofs.Common.{Ok, Err}
 use Rattle.writer_state.specs.Sound.{content}
-use Rattle.paged.proofs.Answering.{holds_of, refused, wait_goes, waited_usable}
+use Rattle.paged_read.proofs.Outliving.{holds_of}
+use Rattle.paged.proofs.Answering.{refused, wait_goes, waited_usable}
 use Rattle.paged.proofs.Over.{waits_stay}
 use Rattle.paged.proofs.Owing.{owes_waiting}
 use Rattle.paged.proofs.writer.Writer.wait_for_sync.Goals as goal

@@ -7,6 +7,7 @@ use Rattle.std.proofs.lemmas.Result.{err_from_is_err_and}
 use Rattle.std.specs.Int.NonZero.{non_zero_u16_get}
 use Rattle.crash.specs.Looks.{looked_joins}
 use Rattle.paged_read.proofs.ReadAheads.{run_length}
+use Rattle.paged_read.proofs.Queues.{queue_joins, queue_kept}
 use Rattle.paged_read.proofs.ahead.Batches.add.Goals as goal
 
 pub push-requires-clause-fits : goal.push-requires-clause-fits
@@ -52,3 +53,20 @@ pub returns-clause-asks : goal.returns-clause-asks
 returns-clause-asks g c =
     batches_join (non_zero_u16_get c.args.self.page_size) c.args.self.batch c.args.self.full_pages c.args.page c.after-next.result (g.B.Blob.life c.args.blob.now) (g.B.Blob.life c.read.new.blob) (g.B.Blob.life c.top_up.new.blob)
     (omega (arith, c.after-next.ensures)) c.read.ensures.asks c.top_up.ensures.reads
+
+pub returns-clause-asked : goal.returns-clause-asked
+returns-clause-asked g c =
+    let P = non_zero_u16_get c.args.self.page_size in
+    let a = (g.B.Blob.life c.args.blob.now).present in
+    let b = (g.B.Blob.life c.read.new.blob).present in
+    let d = (g.B.Blob.life c.top_up.new.blob).present in
+    queue_joins P c.args.self.batch c.args.self.full_pages c.args.queue.now.items c.read.new.queue.items c.top_up.new.queue.items a b d c.read.ensures.looked.log c.top_up.ensures.looked.log
+    (queue_kept P c.args.self.batch c.args.self.full_pages c.args.queue.now.items c.read.new.queue.items a b c.read.ensures.kept) c.top_up.ensures.asked
+
+pub returns-in_err-bytes-clause-asked : goal.returns-in_err-bytes-clause-asked
+returns-in_err-bytes-clause-asked g c =
+    queue_kept (non_zero_u16_get c.args.self.page_size) c.args.self.batch c.args.self.full_pages c.args.queue.now.items c.read.new.queue.items (g.B.Blob.life c.args.blob.now).present (g.B.Blob.life c.read.new.blob).present c.read.ensures.kept
+
+pub returns-in_err-push-clause-asked : goal.returns-in_err-push-clause-asked
+returns-in_err-push-clause-asked g c =
+    queue_kept (non_zero_u16_get c.args.self.page_size) c.args.self.batch c.args.self.full_pages c.args.queue.now.items c.read.new.queue.items (g.B.Blob.life c.args.blob.now).present (g.B.Blob.life c.read.new.blob).present c.read.ensures.kept

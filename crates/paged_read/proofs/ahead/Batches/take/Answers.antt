@@ -1,6 +1,7 @@
 use Rattle.std.proofs.Common.{List, ap, ◌∙◌, sym, subst, All, slice_get}
 use Rattle.std.specs.Int.NonZero.{non_zero_u16_get}
-use Rattle.std.proofs.lemmas.List.Elements.{All-drop}
+use Rattle.std.specs.List.{Contains}
+use Rattle.std.proofs.lemmas.List.Elements.{All-contains_itself, All-drop}
 use Rattle.paged_read.specs.declared.ahead.Ahead.{Ahead}
 use Rattle.paged_read.specs.ReadAhead.{IsBatch}
 use Rattle.paged_read.proofs.AheadCosts.{taken_first}
@@ -26,3 +27,8 @@ returns-in-Some-clause-bytes c = λ d are.
 pub returns-in-Some-clause-served : goal.returns-in-Some-clause-served
 returns-in-Some-clause-served c = λ a bytes first here read.
     taken_first c.args.queue.now.items a a c.remove.result bytes c.wait.result c.ok.result first c.remove.ensures.value read c.wait.ensures.ok c.ok.ensures.value
+
+pub returns-in-Some-clause-kept : goal.returns-in-Some-clause-kept
+returns-in-Some-clause-kept c =
+    subst (λ (l : List Ahead). All (Contains c.args.queue.now.items) l) (sym c.remove.ensures.items)
+    (All-drop (Contains c.args.queue.now.items) 1 c.args.queue.now.items (All-contains_itself c.args.queue.now.items))

@@ -4,7 +4,7 @@ use Rattle.crash.specs.Looks.{looked_joins}
 use Rattle.paged_read.specs.Replay.{end_of, Ensures, IsReplay, ReplayState}
 use Rattle.paged_read.specs.Tail.{tail_size}
 use Rattle.paged_read.proofs.ReadLaws.{look_leaves}
-use Rattle.paged_read.proofs.Replays.{Reached, ensure_costs, ensure_fails, filled_replays, reach_ends, reach_fails, reach_idle, reach_more, reach_start}
+use Rattle.paged_read.proofs.Replays.{Reached, ensure_costs, ensure_fails, filled_replays, queued_on, reach_ends, reach_fails, reach_idle, reach_more, reach_start}
 use Rattle.paged_read.proofs.replay.Replay.ensure.Goals as goal
 use Rattle.paged_read.proofs.replay.Replay.ensure.Goals.{After-remaining-2, then-loop-self-test+else-end-size, else-loop-self-test}
 use Rattle.paged_read.proofs.replay.Replay.ensure.Given.{Over}
@@ -26,7 +26,7 @@ loop-self-preserved g c =
       c.remaining.ensures,
       ap (λ (r : ReplayState). length r.hand) c.self.view_is,
     ))
-    c.in_ok-fill.ensures.fills c.fill.ensures.idle c.in_ok-fill.ensures.step c.in_ok-fill.ensures.calls c.in_ok-fill.ensures.served c.fill.ensures.reads c.fill.ensures.can c.fill.ensures.looked
+    c.in_ok-fill.ensures.fills c.fill.ensures.idle c.in_ok-fill.ensures.step c.in_ok-fill.ensures.calls c.in_ok-fill.ensures.served c.fill.ensures.reads c.fill.ensures.can c.fill.ensures.asked c.fill.ensures.looked
 
 pub returns-in_err-fill-clause-goes : goal.returns-in_err-fill-clause-goes
 returns-in_err-fill-clause-goes g c =
@@ -36,7 +36,12 @@ returns-in_err-fill-clause-goes g c =
     (g.B.Blob.life c.args.blob.now) (g.B.Blob.life c.loop-self.blob)
     (g.B.Blob.life c.fill.new.blob) c.in_err-fill.field-0.0 c.loop-self.invariant
     c.in_err-fill.ensures.fills c.in_err-fill.ensures.failed) in
-    record { answers = answers; replays = search rules; can = c.fill.ensures.can }
+    record {
+      answers = answers;
+      replays = search rules;
+      can = c.fill.ensures.can;
+      asked = queued_on g.H.Sum.sum_of c.args.self.now c.args.count c.loop-self.self c.fill.new.self (g.B.Blob.life c.args.blob.now) (g.B.Blob.life c.loop-self.blob) (g.B.Blob.life c.fill.new.blob) c.loop-self.invariant c.fill.ensures.asked c.fill.ensures.looked;
+    }
 
 pub returns-in_err-fill-clause-costs : goal.returns-in_err-fill-clause-costs
 returns-in_err-fill-clause-costs g c =
@@ -64,7 +69,7 @@ returns-in_err-fill-clause-leaves g c =
     (g.B.Blob.life c.fill.new.blob) c.loop-self.invariant.looked c.fill.ensures.looked)
 
 pub returns-then-count-remaining-clause-goes : goal.returns-then-count-remaining-clause-goes
-returns-then-count-remaining-clause-goes g c = record { answers = search rules; replays = search rules; can = search rules }
+returns-then-count-remaining-clause-goes g c = record { answers = search rules; replays = search rules; can = search rules; asked = c.loop-self.invariant.queued }
 
 pub returns-then-count-remaining-clause-leaves : goal.returns-then-count-remaining-clause-leaves
 returns-then-count-remaining-clause-leaves g c =
@@ -126,6 +131,7 @@ returns-clause-goes g c =
           (record { there = so_far.can.there; hand = so_far.can.hand; queue = so_far.can.queue })
           so_far.looked;
       can = record { there = so_far.can.there; hand = so_far.can.hand; queue = so_far.can.queue };
+      asked = so_far.queued;
     }
 
 pub returns-clause-leaves : goal.returns-clause-leaves

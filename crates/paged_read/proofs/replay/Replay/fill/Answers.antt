@@ -12,6 +12,8 @@ use Rattle.paged_read.specs.Tail.{tail_size}
 use Rattle.paged_read.proofs.AheadCosts.{batches_none, err_holds, ok_holds}
 use Rattle.paged_read.proofs.Failing.{none_failed_kept}
 use Rattle.paged_read.proofs.Replays.{Filled, filled_batch, filled_rest, grows, page_after, page_within}
+use Rattle.paged_read.specs.ReadAhead.{QueuesAsked}
+use Rattle.paged_read.proofs.Queues.{queue_same}
 use Rattle.paged_read.proofs.replay.Replay.fill.Goals as goal
 use Rattle.paged_read.proofs.replay.Replay.fill.Goals.{After-add, After-from-page_size, After-push}
 use Rattle.paged_read.proofs.replay.Replay.fill.Given.{Over}
@@ -351,3 +353,26 @@ pub returns-then-page-self-clause-reads : goal.returns-then-page-self-clause-rea
 returns-then-page-self-clause-reads g c =
     let r = c.args.self.now in
     batches_none r.tail.page_size r.batch r.tail.full_pages (end_of r / r.tail.page_size) (g.B.Blob.life c.args.blob.now) (g.B.Blob.life c.args.blob.now) refl
+
+pub returns-clause-asked : goal.returns-clause-asked
+returns-clause-asked g c =
+    let here = (goal.at.returns-clause-asked g c).After-add in
+    let was = batch_was g here in
+    let d = (g.B.Blob.life c.args.blob.now).present in
+    let e = (g.B.Blob.life c.add.new.blob).present in
+    subst (λ (r : ReplayState). QueuesAsked r.tail.page_size r.batch r.tail.full_pages r.queue c.add.new.queue.items d e) c.self.view_is
+    (subst (λ (n : ℕ). QueuesAsked was.tail.page_size was.batch n was.queue c.add.new.queue.items d e) c.self.invariant.3
+    (subst (λ (n : ℕ). QueuesAsked n was.batch c.self.inside.batches.full_pages was.queue c.add.new.queue.items d e) c.self.invariant.2 c.add.ensures.asked))
+
+pub returns-in_err-rest-clause-asked : goal.returns-in_err-rest-clause-asked
+returns-in_err-rest-clause-asked g c =
+    let r = c.args.self.now in
+    let d = (g.B.Blob.life c.args.blob.now).present in
+    queue_same r.tail.page_size r.batch r.tail.full_pages r.queue d d
+
+pub returns-then-page-self-clause-asked : goal.returns-then-page-self-clause-asked
+returns-then-page-self-clause-asked g c =
+    let d = (g.B.Blob.life c.args.blob.now).present in
+    let was = rest_was g c in
+    subst (λ (r : ReplayState). QueuesAsked r.tail.page_size r.batch r.tail.full_pages r.queue was.queue d d) c.self.view_is
+    (queue_same was.tail.page_size was.batch was.tail.full_pages was.queue d d)
