@@ -6,15 +6,14 @@ the short names that docs/CONTRACTS.md introduces at its beginning. And each cla
 WHOLE must stand in docs/CONTRACTS.md, under a head that names the call: so a clause that calls share may stand once,
 under a head that names them all. A head is a heading, or the bold words that begin a paragraph. The crate of its calls
 is the first that its chapter names as "the crate `NAME`", or `paged`. A clause under a head that names such calls, or
-before a comment that does, must be one of theirs. README.md and docs/ERRORS.md: each error that a row of a table of
-calls lists must stand in the clauses of each call of the row, or in a definition of specs/ that these reach. Only
+before a comment that does, must be one of theirs. the READMEs of `paged` and `items`: each error that
+a row of a table of calls lists must stand in the clauses of each call of the row, or in a definition of specs/ that these reach. Only
 definitions that take an error, or an answer that may be one, are followed. So it is text that is compared: a clause
 speaks of this error. Whether the call answers it, and no other, the page has to be read for. "the same" means the row
 above, an error that is "never of" a call isn't looked for there, and "those of" a call isn't followed. docs/GUIDE.md:
 each line of crates.txt that it quotes must stand there, except that of the crate `mine`. docs/DEFINITIONS.md: each word
 must stand in a file of crates/. In every page each link, and each path below crates/, docs/ or examples/, must be
-there. README.md and docs/PROTOCOL.md must have the same table of exit statuses. docs/INDEX.md must be what
-examples/public_items.py writes. docs/DECISIONS.md: each edit that it lists as one that stays must have a file in the
+there. docs/INDEX.md must be what examples/public_items.py writes. docs/DECISIONS.md: each edit that it lists as one that stays must have a file in the
 crate's must-fail/. It prints what isn't so, and ends with status 1 then.
 """
 import collections
@@ -66,9 +65,8 @@ WHOLE = ["paged", "session", "journal", "store", "items"]
 # The tables of calls with their errors: page, heading, and the crates in which a call is looked for, the first that has
 # one of this name.
 TABLES = [
-    ("README.md", "The calls", ["paged", "paged_read"]),
-    ("README.md", "Items of one size", ["items"]),
-    ("docs/ERRORS.md", "Items", ["items"]),
+    ("crates/paged/README.md", "The calls", ["paged", "paged_read"]),
+    ("crates/items/README.md", "Items", ["items"]),
 ]
 
 
@@ -312,15 +310,6 @@ def wrong_places(pages):
     return wrong, len(places)
 
 
-def wrong_statuses(pages):
-    """The pages whose table of exit statuses isn't that of the first page, and how many tables there are."""
-    tables = {page: [table for table in re.findall(r"(?:^\|.*\n)+", read(page), re.M) if "\n| 141 |" in table]
-              for page in pages}
-    wrong = [f"{page}: not the table of exit statuses of {pages[0]}" for page in pages
-             if len(tables[page]) != 1 or tables[page] != tables[pages[0]]]
-    return wrong, len(pages)
-
-
 def wrong_index():
     """The lines by which the page of public items isn't what the sources say, and how many items there are."""
     there, said = read(public_items.PAGE).split("\n"), public_items.page().split("\n")
@@ -341,7 +330,9 @@ def wrong_edits(page):
 
 
 def main():
-    pages = ["README.md"] + sorted(f"docs/{name}" for name in os.listdir(os.path.join(ROOT, "docs")))
+    pages = ["README.md"] + sorted(f"docs/{name}" for name in os.listdir(os.path.join(ROOT, "docs"))
+                                   if name.endswith(".md"))
+    pages += sorted(os.path.relpath(path, ROOT) for path in sources("*/README.md"))
     found = {
         "snippets": wrong_code(["README.md", "docs/GUIDE.md"]),
         "clauses": wrong_clauses(["README.md", "docs/CONTRACTS.md"]),
@@ -350,7 +341,6 @@ def main():
         "crates": wrong_crates("docs/GUIDE.md"),
         "words": wrong_words("docs/DEFINITIONS.md"),
         "links and paths": wrong_places(pages),
-        "tables of statuses": wrong_statuses(["README.md", "docs/PROTOCOL.md"]),
         "lines of the index": wrong_index(),
         "edits that stay": wrong_edits("docs/DECISIONS.md"),
     }

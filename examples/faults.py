@@ -3,8 +3,8 @@
 Files that lost bytes once, or could, are given to each command. Of each it says what is expected, why,
 and what version 0.2.0 did where that was another thing; the first that isn't so ends it. A file that is
 refused is compared with what it was. Last it plays each command on each kind of file, and compares that
-with the table of README.md, which `--table` prints; and on logs with each kind of damage, for the table
-of docs/LOG_PROTOCOL.md, which `--log-table` prints.
+with the table of docs/PAGEDD.md, which `--table` prints; and on logs with each kind of damage, for the table
+of the same page, which `--log-table` prints.
 """
 import errno
 import json
@@ -25,7 +25,7 @@ import reader
 import survey
 import usage
 from served import BlobRequest, Locked, Refusal, Served, ServedLog, frame
-from statuses import (CLOSING, PAGE, PAYLOAD, README, a_blob, a_page, a_torn_blob, contents, flipped, play, put, some,
+from statuses import (CLOSING, PAGE, PAGEDD_PAGE, PAYLOAD, a_blob, a_page, a_torn_blob, contents, flipped, play, put, some,
                       table)
 
 MIB = 1 << 20
@@ -552,13 +552,13 @@ def for_programs(program, folder):
 
 
 def the_table(program, _):
-    with open(README, encoding="utf-8") as file:
+    with open(PAGEDD_PAGE, encoding="utf-8") as file:
         page = file.read()
     played = table(program)
     missing = [line for line in played.splitlines() if line not in page.splitlines()]
     for line in missing:
-        print("not in README.md: " + line)
-    expect(played in page, "each command on each kind of file ends as the table of README.md says", "it was played")
+        print("not in PAGEDD.md: " + line)
+    expect(played in page, "each command on each kind of file ends as the table of PAGEDD.md says", "it was played")
 
 
 def the_log_table(program, _):
@@ -567,8 +567,8 @@ def the_log_table(program, _):
     played = log_statuses.table(program)
     for line in played.splitlines():
         if line not in page.splitlines():
-            print("not in LOG_PROTOCOL.md: " + line)
-    expect(played in page, "each command on each kind of damaged log ends as the table of LOG_PROTOCOL.md says",
+            print("not in PAGEDD.md: " + line)
+    expect(played in page, "each command on each kind of damaged log ends as the table of PAGEDD.md says",
            "it was played")
 
 
@@ -581,8 +581,8 @@ FAULTS = (a_good_blob, a_wrong_file, a_flipped_bit, a_last_page, a_torn_page, sa
 def main():
     parser = usage.parser(__doc__)
     parser.add_argument("PAGEDD", type=usage.program)
-    parser.add_argument("--table", action="store_true", help="print the table of README.md, and end")
-    parser.add_argument("--log-table", action="store_true", help="print the table of LOG_PROTOCOL.md, and end")
+    parser.add_argument("--table", action="store_true", help="print the table of files of PAGEDD.md, and end")
+    parser.add_argument("--log-table", action="store_true", help="print the table of logs of PAGEDD.md, and end")
     given = parser.parse_args()
     if given.log_table:
         sys.stdout.write(log_statuses.table(given.PAGEDD))

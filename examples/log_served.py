@@ -2,7 +2,7 @@
 
 Each kind of request in both versions, frames that are none, what is refused and how, logs that are served
 for reading alone, two programs at one log, and folders that were changed by hand. The first thing that
-isn't as `docs/LOG_PROTOCOL.md` says ends it. It has no cases of a killed program: `log_kill.py` has them.
+isn't as `docs/PROTOCOL.md` says ends it. It has no cases of a killed program: `log_kill.py` has them.
 """
 import errno
 import hashlib
@@ -24,7 +24,7 @@ from statuses import contents, put
 
 SMALL = "--segment-size=300"
 MOST = 65535
-PAGE = os.path.join(os.path.dirname(os.path.abspath(__file__)), "..", "docs", "LOG_PROTOCOL.md")
+PAGE = os.path.join(os.path.dirname(os.path.abspath(__file__)), "..", "docs", "PROTOCOL.md")
 OFFER = b"\x02\x02\x01\x02"
 GREATEST = 2 ** 64 - 1
 
@@ -992,10 +992,10 @@ def commands(program, folder):
 
 
 def documented(program, folder):
-    """The bytes of the page: of each two blocks the first is written, and the second read."""
+    """The page's bytes of a log, behind those of a blob: of each two blocks the first is written, the second read."""
     with open(PAGE, encoding="utf-8") as page:
         text = page.read().split("## Examples")[1]
-    blocks = [bytes.fromhex("".join(block.split())) for block in re.findall(r"(?:^ {4}[0-9a-f ]+\n)+", text, re.M)]
+    blocks = [bytes.fromhex("".join(block.split())) for block in re.findall(r"(?:^ {4}[0-9a-f ]+\n)+", text, re.M)][4:]
     for number, (given, wanted) in enumerate(zip(blocks[::2], blocks[1::2])):
         ended = play(program, "serve-log", f"{folder}-{number}", given=given)
         expect(ended == (0, wanted, ""), f"the page's example of version {number + 1} is so")

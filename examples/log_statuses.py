@@ -1,4 +1,4 @@
-"""The table of docs/LOG_PROTOCOL.md: what each kind of damage does to a log; for faults.py, which plays it."""
+"""The table of docs/PAGEDD.md: what each kind of damage does to a log; for faults.py, which plays it."""
 import os
 import shutil
 import tempfile
@@ -7,7 +7,7 @@ import usage
 from served import LogRequest, ServedLog
 from statuses import PAGE, contents, play, put
 
-PAGE_OF_TABLE = os.path.join(os.path.dirname(os.path.abspath(__file__)), "..", "docs", "LOG_PROTOCOL.md")
+PAGE_OF_TABLE = os.path.join(os.path.dirname(os.path.abspath(__file__)), "..", "docs", "PAGEDD.md")
 
 # A client that offers version 2, asks for the number of records, and closes.
 ASKS = b"\x02\x01\x02" + bytes([1, 0, 0, 0, LogRequest.SIZE]) + b"\x01\x00\x00\x00\x10"
@@ -163,7 +163,7 @@ def row(program, made, room, name, data):
 
 
 def table(program):
-    """The table, as docs/LOG_PROTOCOL.md has it."""
+    """The table, as docs/PAGEDD.md has it."""
     lines = ["| The file | The damage | `serve-log` | `check` | `cat` | `salvage` | `rebuild` |", "|---" * 7 + "|"]
     with tempfile.TemporaryDirectory() as room:
         made = Made(program, os.path.join(room, "made"))
@@ -174,10 +174,13 @@ def table(program):
 
 
 def rows(program, made, room):
-    """The rows of some files of a log."""
+    """The rows of some files of a log: damages of a file that do the same share one."""
     for what, name in made.names.items():
+        alike = {}
         for damage, data in (list_damages if name.endswith(".digests") else damages)(made, name).items():
-            yield f"| {what} | {damage} | " + " | ".join(row(program, made, room, name, data)) + " |"
+            alike.setdefault(tuple(row(program, made, room, name, data)), []).append(damage)
+        for cells, these in alike.items():
+            yield f"| {what} | {'; '.join(these)} | " + " | ".join(cells) + " |"
 
 
 if __name__ == "__main__":

@@ -1,4 +1,4 @@
-"""The table of README.md: each command of `pagedd` on each kind of file; for faults.py, which plays it."""
+"""The table of docs/PAGEDD.md: each command of `pagedd` on each kind of file; for faults.py, which plays it."""
 import os
 import struct
 import subprocess
@@ -11,7 +11,7 @@ from served import Served
 
 PAYLOAD, PAGE = 4084, 4096
 CLOSING = b"\x01" + b"\x01\x00\x00\x00\x10"
-README = os.path.join(os.path.dirname(os.path.abspath(__file__)), "..", "README.md")
+PAGEDD_PAGE = os.path.join(os.path.dirname(os.path.abspath(__file__)), "..", "docs", "PAGEDD.md")
 
 # What each command is given besides the file's name, and its standard input.
 COMMANDS = {

@@ -1,4 +1,4 @@
-/* The client of `pagedd`. paged.h says what each call does, and docs/PROTOCOL.md and docs/LOG_PROTOCOL.md what the
+/* The client of `pagedd`. paged.h says what each call does, and docs/PROTOCOL.md what the
  * bytes mean. */
 
 /* The POSIX form of strerror_r is wanted, whatever the compiler's command line asks for. */
@@ -184,7 +184,8 @@ static const struct word WORDS[] = {
     WORD(PAGED_NO_FRAME, "no record begins at this offset of a closed segment"),
     WORD(PAGED_UNMARKED, "the segment has no marks, since a version before 0.13 closed it"),
     WORD(PAGED_UNKNOWN_STATUS, "the program refused with a status that this client doesn't know"),
-    WORD(PAGED_NOT_STARTED, "the program can't be started"),
+    WORD(PAGED_NOT_STARTED,
+         "the program can't be started: it is found by options.program, by the variable PAGEDD, or in PATH"),
     WORD(PAGED_NOT_OPENED, "the program couldn't open it"),
     WORD(PAGED_LOCKED, "another process has it open"),
     WORD(PAGED_NOT_WHOLE, "it isn't whole, and nothing was changed"),

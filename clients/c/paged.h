@@ -20,8 +20,8 @@
  * blob all bytes stand in memory.
  *
  * Each open starts a process of `pagedd` and speaks with it by its standard input and output. The process
- * belongs to the handle: paged_blob_close and paged_log_close end it and wait for it. The pages PROTOCOL and
- * LOG_PROTOCOL in the folder docs say what each request promises; this header says what a caller in C has to
+ * belongs to the handle: paged_blob_close and paged_log_close end it and wait for it. The page
+ * docs/PROTOCOL.md says what each request promises; this header says what a caller in C has to
  * know.
  *
  * Durability. What was appended is durable after a sync, a sync_size, an append_records_sync or a wait_sync has
@@ -64,7 +64,7 @@
 extern "C" {
 #endif
 
-/* What a call answers. Up to 45 these are the statuses of the protocol; PROTOCOL and LOG_PROTOCOL say what each
+/* What a call answers. Up to 45 these are the statuses of the protocol; PROTOCOL says what each
  * one leaves of the writer and the log. */
 enum paged_error {
     PAGED_OK = 0,

@@ -1,5 +1,5 @@
-/* Tests of paged.c that need no pagedd: the bytes of each side are written by hand, by docs/PROTOCOL.md and
- * docs/LOG_PROTOCOL.md, in a script that this program plays when it is started as `serve PATH`.
+/* Tests of paged.c that need no pagedd: the bytes of each side are written by hand, by docs/PROTOCOL.md,
+ * in a script that this program plays when it is started as `serve PATH`.
  *
  * Lines of a script: `> HEX` writes bytes, `< HEX` reads bytes and compares them, `! WORDS` writes a line to standard
  * error, `x N` ends with that exit status, `k` by a signal, `z` never, `b` ends with 2 unless the next byte is 1 (as a
@@ -311,7 +311,7 @@ static void page_log_one(void) {
     IS(PAGED_UNSUPPORTED, paged_log_append_records(log, NULL, 0, NULL), paged_log_failure(log));
     IS(PAGED_UNSUPPORTED, paged_log_nth(log, 0, 0, NULL), paged_log_failure(log));
     end_log(log);
-    passed("the bytes of LOG_PROTOCOL's example of version 1; requests of version 2 aren't sent");
+    passed("the bytes of PROTOCOL's example of a log, version 1; requests of version 2 aren't sent");
 }
 
 static void page_log_two(void) {
@@ -343,7 +343,7 @@ static void page_log_two(void) {
     IS(PAGED_NO_SEGMENT, paged_log_drop_before(log, 5), paged_log_failure(log));
     SO(paged_log_failure(log)->status == 38 && paged_log_failure(log)->next == PAGED_ASK_ELSE);
     end_log(log);
-    passed("the bytes of LOG_PROTOCOL's example of version 2");
+    passed("the bytes of PROTOCOL's example of a log, version 2");
 }
 
 /* ---- The other requests ------------------------------------------------------------------------------------ */

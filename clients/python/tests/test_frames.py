@@ -3,6 +3,7 @@ import os
 import re
 import signal
 import unittest
+import unittest.mock
 import warnings
 
 from room import RECORDED, Recorded, blocks, page
@@ -13,6 +14,7 @@ from pagedd_client import (START, AnotherProcess, Batch, Blob, BlobInsufficientL
                            ProgramWarning, RangesRead, ReadFailed, Refusal, SessionBroken, SessionClosed, StartedRecords,
                            SyncFailed, TooLarge, UnknownStatus, Where, WriteFailed, WriterGone, WrongAnswer, WrongFields)
 from pagedd_client import errors
+from pagedd_client import frames as bytes_sent
 
 
 def n(number):
@@ -174,7 +176,7 @@ class Blobs(Case):
             self.assertIn(word, str(refusal))
 
     def test_examples_of_the_page(self):
-        one, one_answers, two, two_answers = blocks(page("PROTOCOL.md"))
+        one, one_answers, two, two_answers = blocks(page("PROTOCOL.md"))[:4]
         self.record("> " + one_answers[:28], "< " + one, "> " + one_answers[28:])
         # (all of it comes before the answers are read, which the recording allows)
         self.record("> " + one_answers[:28], "< " + one[:2], "< " + one[2:22], "> " + one_answers[28:54],
@@ -424,7 +426,7 @@ class Logs(Case):
             log.flush()
 
     def test_examples_of_the_page(self):
-        one, one_answers, two, two_answers = blocks(page("LOG_PROTOCOL.md"))
+        one, one_answers, two, two_answers = blocks(page("PROTOCOL.md"))[4:]
         self.play(one_answers, one, 2, 28, version=1)
         with Log("recording", program=RECORDED, version=1) as log:
             self.assertEqual(log.append(b"hello"), (0, 0))
@@ -478,10 +480,8 @@ class Refusals(Case):
              45: "Unmarked"}
 
     def test_the_pages_have_these_statuses(self):
-        rows = set()
-        for name in ("PROTOCOL.md", "LOG_PROTOCOL.md"):
-            section = page(name).split("\n## Statuses")[1].split("\n## ")[0]
-            rows |= {int(it) for it in re.findall(r"^\| (\d+) \|", section, re.M)}
+        section = page("PROTOCOL.md").split("\n## Statuses")[1].split("\n## ")[0]
+        rows = {int(it) for it in re.findall(r"^\| (\d+) \|", section, re.M)}
         self.assertEqual(rows - {0}, set(self.NAMES))
 
     def test_each_status_of_version_2(self):
@@ -706,6 +706,53 @@ class WrongAnswers(Case):
         self.assertEqual((raised.exception.exit_status, raised.exception.words), (1, "pagedd: gone"))
 
 
+class Pieces(Case):
+    """Answers in pieces, and several at once: a pipe keeps no bounds."""
+
+    def test_an_answer_byte_by_byte(self):
+        self.record(greeting(), f"< {OFFER}", f"> {BLOB_HELLO}", "< 11000000 06" + n(0) + n(2),
+                    *[line for byte in ("03", "00", "00", "00", "00", "61", "62") for line in ("> " + byte, "wait 0.01")],
+                    "< 01000000 05", "> 0900", "wait 0.01", "> 0000 00" + n(7), f"< {CLOSE}")
+        with Blob("recording", program=RECORDED) as blob:
+            self.assertEqual((blob.read(0, 2), blob.size()), (b"ab", 7))
+
+    def test_a_long_answer(self):
+        size = 300_000
+        with self.blob(("11000000 06" + n(0) + n(size), f"{(size + 1).to_bytes(4, 'little').hex()} 00" + "61" * size),
+                       ("01000000 05", "09000000 00" + n(7))) as blob:
+            self.assertEqual((blob.read(0, size), blob.size()), (b"a" * size, 7))
+
+    def test_long_answers_at_once(self):
+        """Each begins in one piece and ends in another."""
+        places = [(0, number) for number in range(5)]
+        answers = [f"09000100 00 {n(number)}01" + f"{number:02x}" * 65_535 for number in range(5)]
+        with self.log(("".join("11000000 06" + n(0) + n(number) for number in range(5)), "".join(answers)),
+                      ("01000000 05", "09000000 00" + n(5))) as log:
+            self.assertEqual(log.read_many(places), [bytes([number]) * 65_535 for number in range(5)])
+            self.assertEqual(log.size(), 5)
+
+    def test_records_where_the_highest_byte_is_first(self):
+        records = [b"ab", b"", b"c" * 300]
+        here = bytes_sent.records_frame(17, records)
+        with unittest.mock.patch.object(bytes_sent, "_AS_HERE", False):
+            self.assertEqual(bytes_sent.records_frame(17, records), here)
+
+    def test_signals_while_a_request_is_written(self):
+        """It goes on behind what has gone."""
+        size = 1 << 20
+        self.record(greeting(), f"< {OFFER}", f"> {BLOB_HELLO}", "wait 0.3", f"< {(size + 1).to_bytes(4, 'little').hex()} 01",
+                    "< " + "61" * size, "> 09000000 00" + n(5), f"< {CLOSE}")
+        before = signal.signal(signal.SIGALRM, lambda *_: None)
+        blob = Blob("recording", program=RECORDED)
+        signal.setitimer(signal.ITIMER_REAL, 0.02, 0.02)
+        try:
+            self.assertEqual(blob.append(b"a" * size), 5)
+        finally:
+            signal.setitimer(signal.ITIMER_REAL, 0)
+            signal.signal(signal.SIGALRM, before)
+        blob.close()
+
+
 class Sessions(Case):
     """What a session does besides its requests."""
 
@@ -775,6 +822,22 @@ class Sessions(Case):
     def test_a_key_reaches_this_process_alone(self):
         with self.blob() as blob:
             self.assertNotEqual(os.getpgid(blob.process_id), os.getpgid(0))
+
+    def test_what_is_no_data_and_no_place_is_not_sent(self):
+        with self.log(("02000000 01 61", "11000000 00" + n(0) + n(0)), ("01000000 02", DONE)) as log:
+            for data in ("text", "", 3, None, [1], memoryview(b"abcd").cast("H")):
+                with self.assertRaisesRegex(TypeError, "data is bytes"):
+                    log.append(data)
+                with self.assertRaisesRegex(TypeError, "data is bytes"):
+                    log.append_many([b"a", data])
+            with self.assertRaisesRegex(TypeError, "and not int"):
+                log.append_many(b"text")
+            for place in ((0,), (0, 0, 0), 0, "000"):
+                for call in (log.read, log.read_frame, log.next, log.next_many, log.pass_damage, log.records,
+                             lambda it: log.read_many([it])):
+                    with self.assertRaises((TypeError, ValueError)):
+                        list(call(place))
+            self.assertEqual(log.append(b"a"), (0, 0))
 
     def test_snapshots_and_replays_of_version_1_stay(self):
         with self.blob(("01000000 0a", "09000000 00" + n(0)), version=1) as blob:

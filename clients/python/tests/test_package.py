@@ -11,6 +11,7 @@ from room import PACKAGE, SOURCES, Room
 
 import pagedd_client
 from pagedd_client import Blob, Log, ProgramNotFound, ProgramNotStarted, find_program
+from pagedd_client.program import path_word
 
 
 class Finding(Room):
@@ -34,6 +35,11 @@ class Finding(Room):
             file.write("#!/bin/sh\n")
         os.chmod(self.path(name), mode)
         return self.path(name)
+
+    def test_paths_of_bytes(self):
+        there = self.program("one")
+        self.assertEqual(os.path.realpath(find_program(os.fsencode(there))), os.path.realpath(there))
+        self.assertEqual(path_word(b"-log"), "./-log")
 
     def refused(self, *words, program=None):
         with self.assertRaises(ProgramNotFound) as raised:
@@ -140,7 +146,7 @@ class Package(Room):
                     missing = [it.arg for it in given if it.annotation is None and it.arg != "self"]
                     self.assertEqual((missing, node.returns is None), ([], False), f"{name}: {node.name}")
         if importlib.util.find_spec("mypy"):
-            self.run_python(sys.executable, "-m", "mypy", "--strict", "src", cwd=PACKAGE)
+            self.run_python(sys.executable, "-m", "mypy", "--strict", "--cache-dir", self.path("cache"), "src", cwd=PACKAGE)
 
     def test_each_public_call_has_an_example(self):
         for name in pagedd_client.__all__:

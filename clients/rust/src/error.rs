@@ -6,8 +6,8 @@ use std::io;
 /// What a call answers.
 pub type Result<T> = std::result::Result<T, Error>;
 
-/// The kind of an error. Those with a status are refusals of the program; `docs/PROTOCOL.md` and
-/// `docs/LOG_PROTOCOL.md` say what each leaves of the writer and the log.
+/// The kind of an error. Those with a status are refusals of the program; `docs/PROTOCOL.md`
+/// says what each leaves of the writer and the log.
 #[derive(Clone, Copy, Debug, PartialEq, Eq, Hash)]
 #[non_exhaustive]
 pub enum ErrorKind {
@@ -188,7 +188,10 @@ impl ErrorKind {
             NoFrame => "no record begins at this offset of a closed segment",
             Unmarked => "the segment has no marks, since a version before 0.13 closed it",
             UnknownStatus => "the program refused with a status that this crate doesn't know",
-            NotStarted => "the program can't be started",
+            NotStarted => {
+                "the program can't be started: it is found by `Options::program`, by the variable \
+                 PAGEDD, or in PATH"
+            }
             NotOpened => "the program couldn't open it",
             Locked => "another process has it open",
             NotWhole => "it isn't whole, and nothing was changed",
@@ -260,10 +263,10 @@ impl Next {
 ///     Ok(_) => unreachable!("there is no such folder"),
 /// }
 /// ```
-#[derive(Clone, Debug, PartialEq, Eq)]
+#[derive(Clone, PartialEq, Eq)]
 pub struct Error(Box<Fields>);
 
-#[derive(Clone, Debug, PartialEq, Eq)]
+#[derive(Clone, PartialEq, Eq)]
 pub(crate) struct Fields {
     pub kind: ErrorKind,
     pub next: Next,
@@ -380,6 +383,14 @@ impl fmt::Display for Error {
             )?;
         }
         write!(to, "; next: {}", self.next().words())
+    }
+}
+
+/// The kind, and the same words as [`Display`](fmt::Display): a `main` that ends with an error
+/// prints this.
+impl fmt::Debug for Error {
+    fn fmt(&self, to: &mut fmt::Formatter<'_>) -> fmt::Result {
+        write!(to, "{:?}: {self}", self.kind())
     }
 }
 

@@ -1,5 +1,5 @@
-//! Tests that need no pagedd: the bytes of each side are written by hand, by docs/PROTOCOL.md and
-//! docs/LOG_PROTOCOL.md, in a script that this program plays when it is started as `serve PATH`.
+//! Tests that need no pagedd: the bytes of each side are written by hand, by docs/PROTOCOL.md,
+//! in a script that this program plays when it is started as `serve PATH`.
 //!
 //! Lines of a script: `> HEX` writes bytes, `< HEX` reads bytes and compares them, `! WORDS` writes
 //! a line to standard error, `x N` ends with that exit status, `k` by a signal, `z` never, `b` ends
@@ -643,6 +643,16 @@ fn lost_opening() {
         (error.kind(), error.errno(), error.next()),
         (ErrorKind::NotStarted, Some(2), Next::MendFirst)
     );
+    let printed = format!("{error:?}");
+    for words in [
+        "NotStarted: ",
+        "/nowhere/pagedd",
+        "PAGEDD",
+        "errno 2",
+        "next: mend",
+    ] {
+        assert!(printed.contains(words), "{printed} lacks {words}");
+    }
     for (script, kind, exit_status) in [
         ("x 127\n", ErrorKind::NotStarted, 127),
         (
@@ -1077,8 +1087,8 @@ fn main() -> ExitCode {
         ("the bytes of PROTOCOL's example of version 1", page_blob_one),
         ("the bytes of PROTOCOL's example of version 2", page_blob_two),
         ("PROTOCOL's worked bytes of each request of version 2, and the end with exit status 1", page_worked),
-        ("the bytes of LOG_PROTOCOL's example of version 1; requests of version 2 aren't sent", page_log_one),
-        ("the bytes of LOG_PROTOCOL's example of version 2", page_log_two),
+        ("the bytes of PROTOCOL's example of a log, version 1; requests of version 2 aren't sent", page_log_one),
+        ("the bytes of PROTOCOL's example of a log, version 2", page_log_two),
         ("the bytes of each other request of a blob", other_requests),
         ("the bytes of each other request of a log; extent asks again for what an answer didn't hold", log_requests),
         ("a program of version 1 alone is started again; versions that aren't there", versions),

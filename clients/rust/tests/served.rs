@@ -287,7 +287,7 @@ fn lengths() {
         (ErrorKind::WrongFields, Some(23), Next::AskElse)
     );
     assert_eq!(
-        kind_of(log.append_records_sync(&[b"a", &great[..]])),
+        kind_of(log.append_records_sync(&[&b"a"[..], &great[..]])),
         ErrorKind::WrongFields
     );
     log.append_records_sync(&[&great[1..], b"", &great[1..]])

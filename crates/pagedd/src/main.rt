@@ -6,7 +6,7 @@
 //! file. It sets aside a copy of what goes and may have been synced, and a line on standard error
 //! says what goes. A file that a crash doesn't leave so is refused, except with `--cut`.
 //!
-//! `pagedd serve-log FOLDER` serves a log of records in the same way, as `docs/LOG_PROTOCOL.md`
+//! `pagedd serve-log FOLDER` serves a log of records in the same way, as `docs/PROTOCOL.md`
 //! describes.
 //!
 //! `append` takes standard input as content. `check`, `map`, `cat` and `salvage` read a file, or

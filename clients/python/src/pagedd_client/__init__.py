@@ -7,7 +7,7 @@ b'second'
 
 `Log` is a log of records in a folder, `Blob` one file of bytes, and `LogHandler` puts records of the standard library's
 `logging` into a log. Each starts a `pagedd` of its own, which `find_program` finds, and speaks with it as
-docs/PROTOCOL.md and docs/LOG_PROTOCOL.md of the repository say. All exceptions are of the class `Error`.
+docs/PROTOCOL.md of the repository says. All exceptions are of the class `Error`.
 """
 from .blob import Blob, CountOpen, RangesRead, Replay, Snapshot, StartedRecords
 from .errors import (AnotherProcess, AnswerTooLong, BlobInsufficientLength, CannotOpen, Damaged, EmptyRequest, Error,

@@ -6,15 +6,17 @@ from types import TracebackType
 from typing import Iterable, Iterator, List, NamedTuple, Optional, Sequence, Tuple, Type
 
 from .errors import BlobInsufficientLength, Error, NotInVersion, Refusal, TooLarge
-from .frames import MOST_BYTES, BlobRequest, Bytes, ranges_frame
+from .frames import MOST_BYTES, BlobRequest, Bytes, data_frame, ranges_frame
 from .program import Path, find_program, option_words, path_word
 from .session import Session
 
 _NUMBER = struct.Struct("<Q")
 _NUMBERS = struct.Struct("<QQ")
 
-# (a name of the module is found sooner than that of a member)
-_APPEND, _READ = BlobRequest.APPEND, BlobRequest.READ
+# (a number of the module is found sooner than a member)
+_APPEND, _READ, _READ_UP_TO = int(BlobRequest.APPEND), int(BlobRequest.READ), int(BlobRequest.READ_UP_TO)
+_SIZE, _SYNC = int(BlobRequest.SIZE), int(BlobRequest.SYNC)
+_APPEND_RECORDS, _APPEND_RECORDS_SYNC = int(BlobRequest.APPEND_RECORDS), int(BlobRequest.APPEND_RECORDS_SYNC)
 
 #: How many bytes an iteration reads at once, if it isn't said otherwise.
 PIECE = 65_536
@@ -87,9 +89,9 @@ class Blob(Session):
         ...     blob.append(b"ab"), blob.append(b"cde")
         (0, 2)
         """
-        (offset,) = _NUMBER.unpack(self._request(_APPEND, data=data, least=8, most=8))
+        offset: int = _NUMBER.unpack(self._ask((_APPEND, ()), data_frame(_APPEND, data), 8, 8))[0]
         self._unsynced = True
-        return int(offset)
+        return offset
 
     def append_many(self, records: Iterable[Bytes], *, sync: bool = False) -> List[int]:
         """Puts records at the end, one after another, by one request, and answers the offset of each. With `sync` all
@@ -103,14 +105,11 @@ class Blob(Session):
         ...     blob.append_many([b"ab", b"", b"cde"], sync=True)
         [0, 2, 2]
         """
-        parts = list(records)
         if self.version == 1:
-            return self._append_each(parts, sync)
-        kind = BlobRequest.APPEND_RECORDS_SYNC if sync else BlobRequest.APPEND_RECORDS
-        size = 8 * len(parts)
-        payload = self._request_records(kind, parts, size, size)
+            return self._append_each(list(records), sync)
+        payload = self._request_records(_APPEND_RECORDS_SYNC if sync else _APPEND_RECORDS, records, 8)
         self._unsynced = not sync
-        return list(struct.unpack(f"<{len(parts)}Q", payload))
+        return [*struct.unpack(f"<{len(payload) // 8}Q", payload)]
 
     def _append_each(self, records: Sequence[Bytes], sync: bool) -> List[int]:
         offsets: List[int] = []
@@ -136,10 +135,10 @@ class Blob(Session):
         [0, 2]
         """
         parts = list(records)
-        least = 8 * len(parts)
-        payload = self._request_records(BlobRequest.APPEND_RECORDS_START, parts, least + 1, least + 9)
+        payload = self._request_records(BlobRequest.APPEND_RECORDS_START, parts, 8, 1, 9)
         self._unsynced = True
-        return StartedRecords(list(struct.unpack_from(f"<{len(parts)}Q", payload)), self._started(payload[least:]))
+        offsets = list(struct.unpack_from(f"<{len(parts)}Q", payload))
+        return StartedRecords(offsets, self._started(payload[8 * len(parts):]))
 
     def _started(self, payload: bytes) -> Optional[int]:
         """The name of a started sync; None if a sync has made all durable."""
@@ -158,7 +157,7 @@ class Blob(Session):
         ...     offset = blob.append(b"hello")
         ...     blob.sync()
         """
-        self._request(BlobRequest.SYNC)
+        self._request(_SYNC)
         self._unsynced = False
 
     def start_sync(self) -> Optional[int]:
@@ -170,7 +169,7 @@ class Blob(Session):
         ...     started = blob.start_sync()
         ...     blob.wait_sync(started)
         """
-        return self._started(self._request(BlobRequest.START_SYNC, least=1, most=9))
+        return self._started(self._request(BlobRequest.START_SYNC, (), 1, 9))
 
     def wait_sync(self, started: int) -> None:
         """Waits for a started sync: what was appended before its start is durable then.
@@ -182,7 +181,7 @@ class Blob(Session):
         pagedd_client.errors.NoSuchNumber: wait_sync 7 was refused with status 20: there is no started sync of this \
 name, or no snapshot or replay of this number; next: ask for something else: the request can't be met as it stands
         """
-        self._request(BlobRequest.WAIT_SYNC, started)
+        self._request(BlobRequest.WAIT_SYNC, (started,))
 
     def size(self) -> int:
         """How many bytes the content has, including those that aren't durable.
@@ -192,8 +191,8 @@ name, or no snapshot or replay of this number; next: ask for something else: the
         ...     blob.size()
         5
         """
-        (size,) = _NUMBER.unpack(self._request(BlobRequest.SIZE, least=8, most=8))
-        return int(size)
+        size: int = _NUMBER.unpack(self._request(_SIZE, (), 8, 8))[0]
+        return size
 
     def sync_size(self) -> int:
         """Syncs, and answers the size: so many bytes are durable then. Version 1 does it by two requests.
@@ -206,7 +205,7 @@ name, or no snapshot or replay of this number; next: ask for something else: the
         if self.version == 1:
             self.sync()
             return self.size()
-        (size,) = _NUMBER.unpack(self._request(BlobRequest.SYNC_SIZE, least=8, most=8))
+        (size,) = _NUMBER.unpack(self._request(BlobRequest.SYNC_SIZE, (), 8, 8))
         self._unsynced = False
         return int(size)
 
@@ -218,7 +217,7 @@ name, or no snapshot or replay of this number; next: ask for something else: the
         ...     blob.read(1, 3)
         b'ell'
         """
-        return self._request(_READ, offset, length, least=length, most=length)
+        return self._request(_READ, (offset, length), length, length)
 
     def read_up_to(self, offset: int, length: int) -> bytes:
         """At most `length` bytes from `offset` on, as many as there are. None at the end of the content is an
@@ -229,7 +228,7 @@ name, or no snapshot or replay of this number; next: ask for something else: the
         ...     blob.read_up_to(3, 100)
         b'lo'
         """
-        return self._request(BlobRequest.READ_UP_TO, offset, length, most=length)
+        return self._request(_READ_UP_TO, (offset, length), 0, length)
 
     def read_many(self, ranges: Iterable[Tuple[int, int]]) -> List[bytes]:
         """The bytes of several ranges, each an offset and a length. Each begins at or after the end of the one before.
@@ -260,10 +259,7 @@ name, or no snapshot or replay of this number; next: ask for something else: the
         total = 8 + sum(length for _, length in asked)
         if hello is not None and (len(asked) > hello.most_ranges or total > hello.most_payload):
             raise TooLarge(f"a request holds {hello.most_ranges:,} ranges, and an answer {hello.most_payload:,} bytes")
-        try:
-            sent = ranges_frame(BlobRequest.READ_RANGES, asked)
-        except struct.error:
-            raise ValueError("each number is from 0 to 2**64 - 1") from None
+        sent = ranges_frame(BlobRequest.READ_RANGES, asked)
         payload = self._ask((BlobRequest.READ_RANGES, ()), sent, total, total)
         found: List[bytes] = []
         at = 8
@@ -308,7 +304,7 @@ name, or no snapshot or replay of this number; next: ask for something else: the
         ...     blob.truncate(2), blob.read(0, 2)
         (2, b'he')
         """
-        (left,) = _NUMBER.unpack(self._request(BlobRequest.TRUNCATE, size, least=8, most=8))
+        (left,) = _NUMBER.unpack(self._request(BlobRequest.TRUNCATE, (size,), 8, 8))
         self._unsynced = False
         return int(left)
 
@@ -323,7 +319,7 @@ name, or no snapshot or replay of this number; next: ask for something else: the
         ...         snapshot.read(0, 5)
         b'hello'
         """
-        (number,) = _NUMBER.unpack(self._request(BlobRequest.SNAPSHOT, least=8, most=8))
+        (number,) = _NUMBER.unpack(self._request(BlobRequest.SNAPSHOT, (), 8, 8))
         return Snapshot(self, number)
 
     def replay(self, buffer_size: int = PIECE) -> Replay:
@@ -338,7 +334,7 @@ name, or no snapshot or replay of this number; next: ask for something else: the
         """
         if buffer_size < 1:
             raise ValueError("the buffer has a byte at least")
-        (number,) = _NUMBER.unpack(self._request(BlobRequest.REPLAY, buffer_size, least=8, most=8))
+        (number,) = _NUMBER.unpack(self._request(BlobRequest.REPLAY, (buffer_size,), 8, 8))
         return Replay(self, number)
 
     def look(self) -> int:
@@ -352,7 +348,7 @@ name, or no snapshot or replay of this number; next: ask for something else: the
         5
         """
         self._need(BlobRequest.LOOK)
-        (size,) = _NUMBER.unpack(self._request(BlobRequest.LOOK, least=8, most=8))
+        (size,) = _NUMBER.unpack(self._request(BlobRequest.LOOK, (), 8, 8))
         return int(size)
 
     def flush(self) -> None:
@@ -373,7 +369,7 @@ name, or no snapshot or replay of this number; next: ask for something else: the
         CountOpen(snapshots=0, replays=1)
         """
         self._need(BlobRequest.COUNT_OPEN)
-        return CountOpen(*_NUMBERS.unpack(self._request(BlobRequest.COUNT_OPEN, least=16, most=16)))
+        return CountOpen(*_NUMBERS.unpack(self._request(BlobRequest.COUNT_OPEN, (), 16, 16)))
 
 
 class _Kept:
@@ -396,7 +392,7 @@ class _Kept:
         CountOpen(snapshots=0, replays=0)
         """
         self._blob._need(self._drops)
-        self._blob._request(self._drops, self.number)
+        self._blob._request(self._drops, (self.number,))
 
     def _leave(self, kind: Optional[Type[BaseException]]) -> None:
         try:
@@ -430,7 +426,7 @@ class Snapshot(_Kept):
         ...     blob.snapshot().read(1, 2)
         b'el'
         """
-        return self._blob._request(BlobRequest.SNAP, self.number, offset, length, least=length, most=length)
+        return self._blob._request(BlobRequest.SNAP, (self.number, offset, length), length, length)
 
     def __enter__(self) -> Snapshot:
         return self
@@ -461,7 +457,7 @@ class Replay(_Kept):
         ...     replay.ensure(5), replay.ensure(6)
         (True, False)
         """
-        answer = self._blob._request(BlobRequest.ENSURE, self.number, count, least=1, most=1)[0]
+        answer = self._blob._request(BlobRequest.ENSURE, (self.number, count), 1, 1)[0]
         if answer > 1:
             self._blob._wrong(f"an ensure is answered with a byte 0 or 1, and not {answer}")
         return answer == 1
@@ -475,7 +471,7 @@ class Replay(_Kept):
         ...     replay.ensure(3), replay.take(3)
         (True, b'hel')
         """
-        return self._blob._request(BlobRequest.TAKE, self.number, count, most=count)
+        return self._blob._request(BlobRequest.TAKE, (self.number, count), 0, count)
 
     def read(self, count: int) -> bytes:
         """The next `count` bytes; fewer at the end, and none behind it.
@@ -499,7 +495,7 @@ class Replay(_Kept):
         ...     replay.read(5)
         b'lo'
         """
-        self._blob._request(BlobRequest.SEEK, self.number, offset)
+        self._blob._request(BlobRequest.SEEK, (self.number, offset))
 
     def pieces(self, count: int = PIECE) -> Iterator[bytes]:
         """What is left, by pieces of so many bytes.

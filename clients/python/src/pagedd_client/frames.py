@@ -1,9 +1,13 @@
-"""The bytes of both protocols, as docs/PROTOCOL.md and docs/LOG_PROTOCOL.md have them: requests, records, the hello."""
+"""The bytes of both protocols, as docs/PROTOCOL.md has them: requests, records, the hello."""
 from __future__ import annotations
 
+import array
 import enum
 import struct
-from typing import List, NamedTuple, Sequence, Tuple, Union
+import sys
+from typing import Iterable, List, NamedTuple, Sequence, Tuple, Union
+
+from .errors import TooLarge
 
 #: Bytes that a call takes.
 Bytes = Union[bytes, bytearray, memoryview]
@@ -23,14 +27,20 @@ REFUSAL, MOST_WORDS = 17, 255
 #: The most bytes of a hello. A later program may add to it; one that is longer than this is none.
 MOST_HELLO = 1 << 20
 
-# A frame's length, its kind, and so many numbers.
+# A frame's length and its kind, and with so many numbers.
+_HEAD = struct.Struct("<IB")
 _FRAMES = tuple(struct.Struct(f"<IB{count}Q") for count in range(4))
 _HELLO = struct.Struct("<BB8Q")
 _LENGTH = struct.Struct("<Q")
 
+# Whether this machine has a number of 32 bits as the protocol has it.
+_AS_HERE = sys.byteorder == "little" and array.array("I").itemsize == 4
 
-# (the length of a view counts its items, which may have several bytes)
-_WHOLE = "data is of single bytes: bytes, a bytearray, or a view of them"
+
+def _no_bytes(parts: Iterable[object]) -> TypeError:
+    """What is raised for data that isn't of single bytes. The length of a view counts its items, which may have several."""
+    other = [type(it).__name__ for it in parts if not isinstance(it, (bytes, bytearray, memoryview))]
+    return TypeError("data is bytes, a bytearray, or a view of single bytes" + (f", and not {other[0]}" if other else ""))
 
 
 class BlobRequest(enum.IntEnum):
@@ -116,31 +126,75 @@ def frame(kind: int, *numbers: int, data: Bytes = b"") -> bytes:
     >>> frame(BlobRequest.APPEND, data=b"hello").hex()
     '060000000168656c6c6f'
     """
-    count, length = len(numbers), len(data)
+    fields = data_frame(kind, data)[5:]
+    if numbers:
+        fields = numbers_frame(kind, numbers)[5:] + fields
+    return data_frame(kind, fields)
+
+
+def numbers_frame(kind: int, numbers: Tuple[int, ...]) -> bytes:
+    """A request whose fields are numbers.
+
+    >>> numbers_frame(BlobRequest.WAIT_SYNC, (1,)).hex()
+    '09000000040100000000000000'
+    """
+    count = len(numbers)
     packed = _FRAMES[count] if count < 4 else struct.Struct(f"<IB{count}Q")
-    head = packed.pack(1 + 8 * count + length, kind, *numbers)
-    if not length:
-        return head
-    made = head + data
-    if len(made) != 5 + 8 * count + length:
-        raise TypeError(_WHOLE)
+    try:
+        return packed.pack(1 + 8 * count, kind, *numbers)
+    except struct.error:
+        wrong = [it for it in numbers if not isinstance(it, int) or not 0 <= it <= GREATEST]
+        raise ValueError("each number is from 0 to 2**64 - 1" + (f", and not {wrong[0]!r}" if wrong else "")) from None
+
+
+def data_frame(kind: int, data: Bytes) -> bytes:
+    """A request whose fields are bytes.
+
+    >>> data_frame(BlobRequest.APPEND, b"hello").hex()
+    '060000000168656c6c6f'
+    """
+    try:
+        made = _HEAD.pack(1 + len(data), kind) + data
+    except struct.error:
+        raise TooLarge() from None
+    except TypeError:
+        raise _no_bytes([data]) from None
+    if len(made) != 5 + len(data):
+        raise _no_bytes([])
     return made
 
 
-def records_frame(kind: int, records: Sequence[Bytes]) -> bytes:
+def records_frame(kind: int, records: Iterable[Bytes]) -> bytes:
     """A request with records: how many, the length of each, and their bytes.
 
     >>> records_frame(BlobRequest.APPEND_RECORDS, [b"ab", b"c"]).hex()
     '1000000011020000000200000001000000616263'
     """
-    count = len(records)
-    lengths = list(map(len, records))
-    fields = 4 + 4 * count + sum(lengths)
-    head = struct.pack(f"<IBI{count}I", 1 + fields, kind, count, *lengths)
-    made = b"".join((head, *records))
+    return counted_frame(kind, records)[0]
+
+
+def counted_frame(kind: int, records: Iterable[Bytes]) -> Tuple[bytes, int]:
+    """A request with records, and how many there are.
+
+    >>> counted_frame(BlobRequest.APPEND_RECORDS, iter([b"ab", b"c"]))[1]
+    2
+    """
+    parts: List[Bytes] = [b"", *records]
+    count = len(parts) - 1
+    try:
+        numbers = list(map(len, parts))
+        fields = 4 + 4 * count + sum(numbers)
+        if fields > MOST_BYTES:
+            raise TooLarge(f"the fields of a request have {MOST_BYTES:,} bytes at most")
+        numbers[0] = count
+        head = _HEAD.pack(1 + fields, kind)
+        parts[0] = head + (array.array("I", numbers) if _AS_HERE else struct.pack(f"<{count + 1}I", *numbers))
+        made = b"".join(parts)
+    except TypeError:
+        raise _no_bytes(parts) from None
     if len(made) != 5 + fields:
-        raise TypeError(_WHOLE)
-    return made
+        raise _no_bytes([])
+    return made, count
 
 
 def ranges_frame(kind: int, ranges: Sequence[Tuple[int, int]]) -> bytes:
@@ -149,8 +203,7 @@ def ranges_frame(kind: int, ranges: Sequence[Tuple[int, int]]) -> bytes:
     >>> ranges_frame(BlobRequest.READ_RANGES, [(1, 2)]).hex()
     '110000001401000000000000000200000000000000'
     """
-    numbers = [number for one in ranges for number in one]
-    return frame(kind, *numbers)
+    return numbers_frame(kind, tuple([number for one in ranges for number in one]))
 
 
 def take_hello(payload: bytes) -> Hello:

@@ -5,18 +5,23 @@ import struct
 from typing import Callable, Dict, Iterable, Iterator, List, NamedTuple, Optional, Sequence, Tuple, cast
 
 from .errors import BlobInsufficientLength, Damaged, NoRecord, NotInVersion, Refusal
-from .frames import GREATEST, MOST_BYTES, MOST_RECORD, Bytes, LogRequest
+from .frames import GREATEST, MOST_BYTES, MOST_RECORD, Bytes, LogRequest, data_frame
 from .program import Path, find_program, option_words, path_word
 from .session import Session
 
-# (a name of the module is found sooner than that of a member)
-_APPEND, _READ, _NEXT = LogRequest.APPEND, LogRequest.READ, LogRequest.NEXT
+# (a number of the module is found sooner than a member)
+_APPEND, _READ, _NEXT = int(LogRequest.APPEND), int(LogRequest.READ), int(LogRequest.NEXT)
+_SIZE, _SYNC = int(LogRequest.SIZE), int(LogRequest.SYNC)
+_APPEND_RECORDS, _APPEND_RECORDS_SYNC = int(LogRequest.APPEND_RECORDS), int(LogRequest.APPEND_RECORDS_SYNC)
 
 #: Where a record stands: a segment, and an offset in it. Later records have greater places.
 Place = Tuple[int, int]
 
 #: From here an iteration begins at the first record that the log has.
 START: Place = (0, 0)
+
+# The most bytes of an answer to a read.
+_MOST_FOUND = 9 + MOST_RECORD
 
 #: How many bytes an iteration reads at once, if it isn't said otherwise; and the most that the program answers.
 PIECE, MOST_PIECE = 1 << 20, 1 << 24
@@ -135,7 +140,7 @@ class Log(Session):
         ...     log.append(b"first"), log.append(b"second")
         ((0, 0), (0, 12))
         """
-        segment, offset = _PLACE.unpack(self._request(_APPEND, data=data, least=16, most=16))
+        segment, offset = _PLACE.unpack(self._ask((_APPEND, ()), data_frame(_APPEND, data), 16, 16))
         self._unsynced = True
         return segment, offset
 
@@ -151,14 +156,11 @@ class Log(Session):
         ...     log.append_many([b"ab", b"", b"cde"], sync=True)
         [(0, 0), (0, 9), (0, 16)]
         """
-        parts = list(records)
         if self.version == 1:
-            return self._append_each(parts, sync)
-        kind = LogRequest.APPEND_RECORDS_SYNC if sync else LogRequest.APPEND_RECORDS
-        size = 16 * len(parts)
-        payload = self._request_records(kind, parts, size, size)
+            return self._append_each(list(records), sync)
+        payload = self._request_records(_APPEND_RECORDS_SYNC if sync else _APPEND_RECORDS, records, 16)
         self._unsynced = not sync
-        return cast(List[Place], list(_PLACE.iter_unpack(payload)))
+        return cast("List[Place]", list(_PLACE.iter_unpack(payload)))
 
     def _append_each(self, records: Sequence[Bytes], sync: bool) -> List[Place]:
         places: List[Place] = []
@@ -179,7 +181,7 @@ class Log(Session):
         ...     place = log.append(b"first")
         ...     log.sync()
         """
-        self._request(LogRequest.SYNC)
+        self._request(_SYNC)
         self._unsynced = False
 
     def commit(self) -> None:
@@ -199,8 +201,8 @@ class Log(Session):
         ...     log.size()
         1
         """
-        (count,) = _NUMBER.unpack(self._request(LogRequest.SIZE, least=8, most=8))
-        return int(count)
+        count: int = _NUMBER.unpack(self._request(_SIZE, (), 8, 8))[0]
+        return count
 
     def sync_size(self) -> int:
         """Commits all records, and answers how many there are. Version 1 does it by two requests.
@@ -213,7 +215,7 @@ class Log(Session):
         if self.version == 1:
             self.sync()
             return self.size()
-        (count,) = _NUMBER.unpack(self._request(LogRequest.SYNC_SIZE, least=8, most=8))
+        (count,) = _NUMBER.unpack(self._request(LogRequest.SYNC_SIZE, (), 8, 8))
         self._unsynced = False
         return int(count)
 
@@ -229,10 +231,8 @@ class Log(Session):
         ...     log.read(place)
         b'first'
         """
-        data = self._frame_at(place, self._request(_READ, *place, least=9, most=9 + MOST_RECORD)).data
-        if data is None:
-            raise NoRecord(f"no record stands at {place}")
-        return data
+        segment, offset = place
+        return self._record_at(place, self._request(_READ, (segment, offset), 9, _MOST_FOUND))
 
     def read_frame(self, place: Place) -> Frame:
         """What stands at a place, and the place behind it.
@@ -241,7 +241,15 @@ class Log(Session):
         ...     log.read_frame(log.append(b"first"))
         Frame(data=b'first', behind=(0, 12))
         """
-        return self._frame_at(place, self._request(_READ, *place, least=9, most=9 + MOST_RECORD))
+        segment, offset = place
+        return self._frame_at(place, self._request(_READ, (segment, offset), 9, _MOST_FOUND))
+
+    def _record_at(self, place: Place, payload: bytes) -> bytes:
+        if payload[8] != 1:
+            # (first, whether it is an answer to a read)
+            self._frame_at(place, payload)
+            raise NoRecord(f"no record stands at {place}")
+        return payload[9:]
 
     def _frame_at(self, place: Place, payload: bytes) -> Frame:
         end, is_record = _FOUND.unpack_from(payload)
@@ -257,15 +265,9 @@ class Log(Session):
         ...     log.read_many(log.append_many([b"first", b"second"]))
         [b'first', b'second']
         """
-        asked = list(places)
-        found: List[bytes] = []
-        answers = self._request_each(LogRequest.READ, asked, 9, 9 + MOST_RECORD)
-        for place, payload in zip(asked, answers):
-            data = self._frame_at(place, payload).data
-            if data is None:
-                raise NoRecord(f"no record stands at {place}")
-            found.append(data)
-        return found
+        asked = [(segment, offset) for segment, offset in places]
+        answers = self._request_each(LogRequest.READ, asked, 9, _MOST_FOUND)
+        return list(map(self._record_at, asked, answers))
 
     def next(self, place: Place = START) -> Optional[Tuple[Place, bytes, Place]]:
         """The first record at a place or after it: where it stands, its bytes, and the place behind it; None at the end
@@ -276,8 +278,9 @@ class Log(Session):
         ...     log.next(), log.next((0, 12))
         (((0, 0), b'first', (0, 12)), None)
         """
+        segment, offset = place
         try:
-            payload = self._request(_NEXT, *place, least=32, most=32 + MOST_RECORD)
+            payload = self._request(_NEXT, (segment, offset), 32, 32 + MOST_RECORD)
         except BlobInsufficientLength:
             return None
         segment, offset, behind_segment, behind = _FOUR.unpack_from(payload)
@@ -296,20 +299,19 @@ class Log(Session):
         if not self.takes(LogRequest.NEXT_MANY):
             found = self.next(place)
             return Batch([(found[0], found[1])], found[2]) if found else Batch([], place)
+        segment, offset = place
         # (an answer holds no more than fit 16 MiB, and one record at least)
         bound = 24 + max(min(most, MOST_PIECE), 20 + MOST_RECORD)
         try:
-            payload = self._request(LogRequest.NEXT_MANY, *place, most, least=24, most=bound)
+            payload = self._request(LogRequest.NEXT_MANY, (segment, offset, most), 24, bound)
         except BlobInsufficientLength:
             return Batch([], place)
         segment, offset, count = _THREE.unpack_from(payload)
         at = 24 + 20 * count
         if at > len(payload):
             self._wrong(f"the answer to next_many says {count} records, and ends before their places")
-        records: List[Tuple[Place, bytes]] = []
-        for of, start, length in _LISTED.iter_unpack(payload[24:at]):
-            records.append(((of, start), payload[at:at + length]))
-            at += length
+        records: List[Tuple[Place, bytes]] = [((of, start), payload[at:(at := at + length)])
+                                              for of, start, length in _LISTED.iter_unpack(payload[24:at])]
         if at != len(payload) or not count:
             self._wrong(f"the answer to next_many says {count} records of {at} bytes, and has {len(payload)}")
         return Batch(records, (segment, offset))
@@ -376,7 +378,7 @@ class Log(Session):
         """
         self._need_listed(LogRequest.NTH)
         try:
-            found, offset = _PLACE.unpack(self._request(LogRequest.NTH, segment, number, least=16, most=16))
+            found, offset = _PLACE.unpack(self._request(LogRequest.NTH, (segment, number), 16, 16))
         except BlobInsufficientLength:
             return None
         return found, offset
@@ -390,7 +392,8 @@ class Log(Session):
         Passed(place=(0, 0), bytes=0, records=0)
         """
         self._need_listed(LogRequest.PASS_DAMAGE)
-        payload = self._request(LogRequest.PASS_DAMAGE, *place, least=32, most=32)
+        segment, offset = place
+        payload = self._request(LogRequest.PASS_DAMAGE, (segment, offset), 32, 32)
         segment, offset, length, count = _FOUR.unpack(payload)
         return Passed((segment, offset), length, None if count == GREATEST else count)
 
@@ -408,7 +411,7 @@ class Log(Session):
         self._need_listed(LogRequest.WHERE)
         closed: Dict[int, Closed] = {}
         while True:
-            payload = self._request(LogRequest.WHERE, start, end, least=48, most=MOST_BYTES)
+            payload = self._request(LogRequest.WHERE, (start, end), 48, MOST_BYTES)
             first, last, offset, records, number, count = _SIX.unpack_from(payload)
             if len(payload) != 48 + 17 * count:
                 self._wrong(f"the answer to where says {count} segments, and has {len(payload)} bytes")
@@ -429,7 +432,7 @@ class Log(Session):
         ...     [data for _, data in log]
         [b'second', b'third']
         """
-        self._request(LogRequest.DROP_BEFORE, segment)
+        self._request(LogRequest.DROP_BEFORE, (segment,))
 
     def keep_last(self, bytes: int) -> int:
         """Drops old segments, so that what is left has about so many bytes: the segment with which the sum, from the

@@ -26,7 +26,7 @@ def find_program(program: Optional[Path] = None) -> str:
 name it by the argument `program`, by the variable PAGEDD, or put it on the path
     """
     if program is not None:
-        return _runnable("the argument `program`", os.fspath(program))
+        return _runnable("the argument `program`", os.fsdecode(program))
     named = os.environ.get(VARIABLE)
     if named:
         return _runnable(f"the variable {VARIABLE}", named)
@@ -67,7 +67,7 @@ def path_word(path: Path, always: bool = False) -> str:
     >>> path_word("-log"), path_word("log"), path_word("check", always=True)
     ('./-log', 'log', './check')
     """
-    word = os.fspath(path)
+    word = os.fsdecode(path)
     if word.startswith("-") or always and not os.path.dirname(word):
         return os.path.join(os.curdir, word)
     return word

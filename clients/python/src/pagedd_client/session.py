@@ -1,6 +1,7 @@
 """A session with `pagedd`: the process, its pipes, and one exchange after the other."""
 from __future__ import annotations
 
+import io
 import os
 import struct
 import subprocess
@@ -16,6 +17,7 @@ from .errors import (AnotherProcess, CannotOpen, Error, Locked, Next, NoKnownVer
 from .frames import MOST_BYTES, MOST_HELLO, MOST_WORDS, REFUSAL, Bytes, Hello
 
 _LENGTH = struct.Struct("<I")
+_HEAD = struct.Struct("<IB")
 _NUMBER = struct.Struct("<Q")
 _REFUSAL = struct.Struct("<BQQ")
 _CLOSE = frames.frame(frames.BlobRequest.CLOSE)
@@ -30,8 +32,11 @@ _WINDOW = 4096
 # How long the payload of a refusal may be, in each version.
 _REFUSALS = {1: (0, 0), 2: (REFUSAL, REFUSAL + MOST_WORDS)}
 
-# An answer of fewer bytes is read at once.
-_SHORT = 1 << 16
+# How many bytes of answers are read at once: as many as a pipe mostly holds.
+_PIECE = 1 << 16
+
+# No answers that have come and aren't taken.
+_NOTHING = (b"", 0)
 
 # How long a program whose pipes are closed may take to end, before it is killed, if something went wrong.
 _PATIENCE = 5.0
@@ -74,6 +79,8 @@ class Session:
         self._heard, self._opening = bytearray(), 0
         # Whether a request is on the way, and whether something waits for a sync.
         self._busy = self._unsynced = False
+        # What came of answers, and how much of it was taken.
+        self._came, self._at = _NOTHING
         # Why the session is over, and the first refusal after which the program ends with status 1.
         self._over: Optional[Error] = None
         self._failed: Optional[Error] = None
@@ -100,7 +107,7 @@ class Session:
         0
         """
         return subprocess.Popen(command, stdin=subprocess.PIPE, stdout=subprocess.PIPE, stderr=subprocess.PIPE,
-                                bufsize=1 << 16, start_new_session=True)
+                                bufsize=0, start_new_session=True)
 
     # The start.
 
@@ -162,8 +169,10 @@ class Session:
         # What the program says is read without waiting, at the start and at its end: it writes few lines, so that the
         # pipe holds them, and no thread is needed that reads them.
         os.set_blocking(self._stream(self._process.stderr).fileno(), False)
-        self._input, self._output = self._stream(self._process.stdin), self._stream(self._process.stdout)
-        first = self._output.read(1)
+        # (the pipes are used by their numbers, so that no buffer of a stream stands between)
+        self._input, self._output = (self._stream(it).fileno() for it in (self._process.stdin, self._process.stdout))
+        self._came, self._at = _NOTHING
+        first = self._take_bytes(1)
         if not first:
             self._refused_opening()
         if first != b"\x01":
@@ -192,20 +201,41 @@ class Session:
 
     # Bytes.
 
-    def _write(self, data: Bytes) -> None:
+    def _write(self, data: bytes) -> None:
         try:
-            self._input.write(data)
-            self._input.flush()
+            done = os.write(self._input, data)
+            while done < len(data):
+                # (a signal came while the pipe was full)
+                done += os.write(self._input, memoryview(data)[done:])
         except BrokenPipeError:
             # The program is gone, or takes no more: its answer, or the end of its output, shows why.
             pass
+
+    def _take_bytes(self, count: int) -> bytes:
+        """The next bytes of answers: so many, or fewer at the end of the program's output."""
+        at, end = self._at, self._at + count
+        if end <= len(self._came):
+            self._at = end
+            return self._came[at:end]
+        # (what it answers is what it holds: a long payload stands in memory once)
+        taken = io.BytesIO()
+        missing = count - taken.write(memoryview(self._came)[at:])
+        self._came, self._at = _NOTHING
+        while missing:
+            came = os.read(self._output, _PIECE)
+            if not came:
+                break
+            if len(came) > missing:
+                self._came, self._at = came, missing
+                came = came[:missing]
+            missing -= taken.write(came)
+        return taken.getvalue()
 
     def _frame(self, asked: _Asked, least: int, most: int,
                refusals: Optional[Tuple[int, int]] = None) -> Tuple[int, bytes]:
         """The status of an answer, and its payload: of a length within these bounds, or that of a refusal. Where bytes
         begin with another length, they are no answer, and no more of them is waited for."""
-        read = self._output.read
-        head = read(4)
+        head = self._take_bytes(4)
         if len(head) < 4:
             self._lost(bool(head))
         length = _LENGTH.unpack(head)[0] - 1
@@ -214,14 +244,13 @@ class Session:
         done, refused = least <= length <= most, refusals[0] <= length <= refusals[1]
         if not done and not refused:
             self._wrong(f"the answer to {self._label(asked)} begins with {head.hex()}, which is no length of one")
-        # (of a short answer all is read at once, and of a long one no copy is made)
-        begun = read(1 + length if length < _SHORT else 1)
+        begun = self._take_bytes(1)
         if not begun:
             self._lost(True)
         status = begun[0]
         if not (refused if status else done):
             self._wrong(f"the answer to {self._label(asked)} has status {status} and {length} bytes, which don't fit")
-        payload = begun[1:] if length < _SHORT else read(length)
+        payload = self._take_bytes(length)
         if len(payload) < length:
             self._lost(True)
         return status, payload
@@ -242,6 +271,18 @@ class Session:
 
     def _take(self, asked: _Asked, least: int, most: int) -> Tuple[Optional[Refusal], bytes]:
         """An answer: its payload, or the refusal that it is."""
+        came, at = self._came, self._at
+        if at == len(came):
+            came, at = os.read(self._output, _PIECE), 0
+        # An answer that has come as a whole and isn't refused, as nearly all are.
+        if len(came) >= at + 5:
+            length, status = _HEAD.unpack_from(came, at)
+            end = at + 4 + length
+            if status == 0 and least < length <= most + 1 and end <= len(came):
+                if at or end < len(came):
+                    self._came, self._at = came, end
+                return None, came[at + 5:end]
+        self._came, self._at = came, at
         status, payload = self._frame(asked, least, most)
         if status == 0:
             return None, payload
@@ -255,11 +296,6 @@ class Session:
 
     # Exchanges.
 
-    def _own(self) -> None:
-        """Raises in a fork. It is asked before the lock is, which another thread may have held at the fork."""
-        if os.getpid() != self._owner:
-            raise AnotherProcess()
-
     def _ready(self) -> None:
         """Raises if no request can be made."""
         if self._over is not None:
@@ -271,7 +307,9 @@ class Session:
 
     def _ask(self, asked: _Asked, sent: bytes, least: int, most: int) -> bytes:
         """Sends a request, and answers the payload of its answer, of a length within these bounds."""
-        self._own()
+        # (this is asked before the lock is, which another thread may have held at a fork)
+        if os.getpid() != self._owner:
+            raise AnotherProcess()
         with self._lock:
             if self._busy or self._over is not None or self._process is None:
                 self._ready()
@@ -283,44 +321,36 @@ class Session:
             raise refusal
         return payload
 
-    def _request(self, kind: int, *numbers: int, data: Bytes = b"", least: int = 0, most: int = 0) -> bytes:
-        """A request that has numbers and bytes."""
-        if len(data) > MOST_BYTES or most > MOST_BYTES:
+    def _request(self, kind: int, numbers: Tuple[int, ...] = (), least: int = 0, most: int = 0) -> bytes:
+        """A request whose fields are numbers."""
+        if most > MOST_BYTES:
             raise TooLarge()
-        try:
-            sent = frames.frame(kind, *numbers, data=data)
-        except struct.error:
-            raise ValueError(f"each number is from 0 to 2**64 - 1: {numbers}") from None
-        return self._ask((kind, numbers), sent, least, most)
+        return self._ask((kind, numbers), frames.numbers_frame(kind, numbers), least, most)
 
-    def _request_records(self, kind: int, records: Sequence[Bytes], least: int, most: int) -> bytes:
-        """A request that has records."""
+    def _request_records(self, kind: int, records: Iterable[Bytes], each: int, least: int = 0, most: int = 0) -> bytes:
+        """A request that has records. Its answer has so many bytes for each, and then some more."""
         hello = self.hello
         if hello is None:
             raise NotInVersion(f"{self._kind_name(kind)} isn't in version 1 of the protocol")
-        if len(records) > hello.most_records or most > hello.most_payload:
-            raise TooLarge(f"a request holds {hello.most_records:,} records, and these are {len(records):,}")
-        try:
-            sent = frames.records_frame(kind, records)
-        except struct.error:
-            sent = b""
-        if not sent or len(sent) - 5 > hello.most_fields:
+        sent, count = frames.counted_frame(kind, records)
+        size = each * count
+        if count > hello.most_records or size + most > hello.most_payload:
+            raise TooLarge(f"a request holds {hello.most_records:,} records, and these are {count:,}")
+        if len(sent) - 5 > hello.most_fields:
             raise TooLarge(f"the fields of a request have {hello.most_fields:,} bytes at most")
-        return self._ask((kind, ()), sent, least, most)
+        return self._ask((kind, ()), sent, size + least, size + most)
 
     def _request_each(self, kind: int, numbers: Iterable[Tuple[int, ...]], least: int, most: int) -> List[bytes]:
         """Requests of one kind, of which several are on the way. If some are refused, the first refusal is raised once
         all answers to those that were sent have come; later ones aren't sent. Its `taken` counts those before it."""
-        self._own()
+        if os.getpid() != self._owner:
+            raise AnotherProcess()
         asked, at = list(numbers), 0
         found: List[bytes] = []
         while at < len(asked):
             each = 5 + 8 * len(asked[at])
             part = asked[at:at + max(1, _WINDOW // each)]
-            try:
-                sent = b"".join([frames.frame(kind, *one) for one in part])
-            except struct.error:
-                raise ValueError("each number is from 0 to 2**64 - 1") from None
+            sent = b"".join([frames.numbers_frame(kind, one) for one in part])
             with self._lock:
                 self._ready()
                 self._busy = True
@@ -359,7 +389,7 @@ class Session:
         ...     blob.request(BlobRequest.APPEND, data=b"hello")
         b'\\x00\\x00\\x00\\x00\\x00\\x00\\x00\\x00'
         """
-        payload = self._request(kind, *numbers, data=data, most=MOST_BYTES)
+        payload = self._ask((kind, numbers), frames.frame(kind, *numbers, data=data), 0, MOST_BYTES)
         self._unsynced |= kind in self._appending
         return payload
 
@@ -441,11 +471,8 @@ class Session:
         process = self._process
         if process is None:
             return self._exit_status or 0
-        for stream in (process.stdin, process.stdout):
-            try:
-                self._stream(stream).close()
-            except OSError:
-                pass
+        self._stream(process.stdin).close()
+        self._stream(process.stdout).close()
         try:
             status = process.wait(_PATIENCE)
         except subprocess.TimeoutExpired:
@@ -487,12 +514,9 @@ class Session:
                 return
             self._busy = True
             self._write(_CLOSE)
-            try:
-                self._input.close()
-            except OSError:
-                pass
+            self._stream(process.stdin).close()
             status = process.wait()
-            self._output.close()
+            self._stream(process.stdout).close()
             self._finish(process, status)
         words = self._heard[self._opening:].decode(errors="replace").strip()
         if status == 0 and words:
