@@ -1,34 +1,30 @@
-"""Writes docs/INDEX.md, the list of the public items: python3 examples/public_items.py, at the top of the repository.
+"""Finds the public items of the crates; a module of reference.py, unexampled.py and uncalled.py.
 
-For each crate that a program imports (CRATES) it lists what `src/lib.rt` gives out: the items of its own, those that it
-takes from its modules by `pub use`, and those that it takes from another crate so. Under a type or a trait stand its
-public fields, its variants and its calls. A row has the item's path, its kind, its type or signature without clauses,
-and the first sentence of its doc comment.
-
-With --check it writes nothing: it ends with status 1 if docs/INDEX.md isn't what it would write.
+A crate's public items are what its `src/lib.rt` gives out: the items of its own, those that it takes from its modules
+by `pub use`, and those that it takes from another crate so. Under a type or a trait stand its public fields, its
+variants and its calls. A row has the item's path, its kind, its type or signature without clauses, and the first
+sentence of its doc comment.
 """
+import functools
 import glob
 import os
 import re
 import sys
-import textwrap
+
+import usage
 
 ROOT = os.path.join(os.path.dirname(os.path.abspath(__file__)), "..")
-PAGE = "docs/INDEX.md"
 
 # The crates that a program imports, the lowest first.
-CRATES = ["disk", "page", "crc32c", "digest", "page_digests", "cache", "file", "paged", "items", "journal", "store", "segments", "session", "scripts"]
-
-HEAD = """# The public items
-
-What each crate gives to a program that imports it, one line an item: the type or the signature without its clauses, and
-the first sentence of its comment. [CONTRACTS](CONTRACTS.md) has the clauses, [ERRORS](ERRORS.md) the errors, and
-[GUIDE](GUIDE.md) shows the calls at work. `python3 examples/public_items.py` writes this page from the sources.
-"""
+CRATES = ["disk", "page", "crc32c", "digest", "page_digests", "cache", "file", "paged", "items", "journal", "store",
+          "segments", "session", "scripts"]
 
 # A doc comment, attributes and comments between it and the item, and the item's first words.
 ITEM = re.compile(r"(?P<doc>(?:^ *///[^\n]*\n)*)(?:^ *(?:#\[|// )[^\n]*\n)*^(?P<indent> *)(?P<pub>pub )?"
                   r"(?P<kind>const fn|fn|struct|enum|trait|const|type) (?P<name>\w+)", re.M)
+
+# What stands before the brace of a clause.
+CLAUSE = re.compile(r"(?:\b(?:requires|ensures)\*?(?:\s+\w+)?|\bghost\b[^{};]*?)\s*$")
 
 
 def read(path):
@@ -36,6 +32,7 @@ def read(path):
         return file.read()
 
 
+@functools.cache
 def sources(crate):
     """The files of a crate's src/, each as its text."""
     paths = sorted(glob.glob(os.path.join(ROOT, "crates", crate, "src", "**", "*.rt"), recursive=True))
@@ -50,6 +47,36 @@ def block(text, start):
         end += 1
         if not depth:
             return text[start + 1:end - 1]
+
+
+def skip_braces(text, start):
+    """The offset after the brace that ends what begins at an offset. A comment counts for nothing."""
+    depth, at = 0, start
+    while True:
+        if text.startswith("//", at):
+            at = text.index("\n", at)
+        depth += {"{": 1, "}": -1}.get(text[at], 0)
+        at += 1
+        if not depth:
+            return at
+
+
+def head_of(text, start):
+    """The code of a call from an offset up to its body: its signature and its clauses."""
+    depth, at = 0, start
+    while True:
+        if text.startswith("//", at):
+            at = text.index("\n", at)
+        letter = text[at]
+        depth += {"(": 1, "[": 1, ")": -1, "]": -1}.get(letter, 0)
+        if letter == "{" and not depth:
+            if not CLAUSE.search(text[start:at]):
+                return text[start:at].rstrip()
+            at = skip_braces(text, at)
+            continue
+        if letter == ";" and not depth:
+            return text[start:at]
+        at += 1
 
 
 def sentence(doc):
@@ -73,10 +100,6 @@ def signature(text, start):
         depth += {"(": 1, "[": 1, ")": -1, "]": -1}.get(text[end], 0)
         end += 1
     return in_one_line(re.split(r"^ *(?:requires|ensures|ghost)\b", text[start:end], flags=re.M)[0])
-
-
-def words(code):
-    return code.replace("|", "\\|")
 
 
 class Crate:
@@ -105,13 +128,19 @@ class Crate:
         return [(f"{self.name}::{path}", kind, code, said) for path, kind, code, said in found]
 
 
+@functools.cache
+def public_matches(crate):
+    """The public items of a crate's files: each as its file's text and the match in it."""
+    return [(text, match) for text in sources(crate) for match in ITEM.finditer(text)
+            if match["pub"] and not match["indent"]]
+
+
 def items(crate, name):
     """The rows of an item of a crate, and of what stands below it."""
     rows = []
-    for text in sources(crate):
-        for match in ITEM.finditer(text):
-            if match["name"] == name and match["pub"] and not match["indent"]:
-                rows += item_rows(text, match)
+    for text, match in public_matches(crate):
+        if match["name"] == name:
+            rows += item_rows(text, match)
     if not rows:
         sys.exit(f"no such item: {crate}::{name}")
     if rows[0][1] in ("struct", "enum", "type"):
@@ -172,26 +201,5 @@ def calls_of(crate, owner):
     return rows
 
 
-def page():
-    """The page as it is to be."""
-    out = [HEAD]
-    for name in CRATES:
-        crate = Crate(name)
-        about = textwrap.fill(re.sub(r"\[(`[^`]*`)\]", r"\1", crate.about), 120)
-        out.append(f"## {name}\n\n{about}\n")
-        rows = [f"| `{path}` | {kind} | `{words(code)}` | {words(said)} |" for path, kind, code, said in crate.rows()]
-        out.append("\n".join(["| Item | Kind | Type or signature | What it is |", "|---|---|---|---|"] + rows) + "\n")
-    return "\n".join(out)
-
-
-def main():
-    if "--check" in sys.argv[1:]:
-        there = os.path.exists(os.path.join(ROOT, PAGE)) and read(PAGE) == page()
-        print(f"{PAGE} is {'' if there else 'not '}what the sources say")
-        sys.exit(0 if there else 1)
-    with open(os.path.join(ROOT, PAGE), "w", encoding="utf-8") as file:
-        file.write(page())
-
-
 if __name__ == "__main__":
-    main()
+    usage.module("reference.py, unexampled.py and uncalled.py")

@@ -2,8 +2,9 @@
 
 It ends with status 1 if it lists any: one line each, with the file, the line and the words. It reads README.md and
 docs/*.md, and the comments of crates/*/{src,specs,proofs}: `//` in .rt and `--` in .antt, outside of strings. Words in
-backticks aren't looked at, since they are names and labels, nor are blocks of code: lines between fences, or with four
-blanks in front after an empty line. A turn may run over the end of a line. The turns, and what is meant instead:
+backticks aren't looked at, since they are names and labels, nor are the places of links, nor blocks of code: lines
+between fences, or with four blanks in front after an empty line. A turn may run over the end of a line. The turns, and
+what is meant instead:
 
 - "but where", "but of", "but by", "but for", "but at", "but as" for *unless* or *except*. "Not X but Y" with no comma
   is plain, and so are "But where", which begins a sentence, and "but at most".
@@ -90,7 +91,7 @@ def paragraphs(lines):
 def turns(lines):
     """The odd turns of some lines: the line on which each begins, and the words with what stands around them."""
     for text, places in paragraphs(lines):
-        plain = re.sub(r"`[^`]*`", lambda name: "`" * len(name[0]), text)
+        plain = re.sub(r"`[^`]*`|\]\([^)]*\)", lambda name: "`" * len(name[0]), text)
         for match in TURNS.finditer(plain):
             if match[0].startswith("but") and NOT_BUT.search(plain[:match.start()]):
                 continue

@@ -4,7 +4,7 @@ A body that always answers `OutOfMemory` meets its contract, so each public call
 succeeds. This script looks for the calls by their names. It ends with status 1 if it lists one. Its rules:
 
 - **Public calls** are the functions, the methods and the methods of traits that examples/public_items.py finds: what
-  docs/INDEX.md lists, and what the crate `protocol` gives out.
+  docs/reference has of the crates that a program imports, and what the crate `protocol` gives out.
 - **Callers** are the crates with a `main`, `system_tests`, the tests in other crates, and the libraries that stand above
   `paged`. A library's calls count, since its own public calls are looked for too. The libraries below don't count: each
   of their calls is to be made by itself. `conformance` is a program, so what a case can play is called.
@@ -17,6 +17,7 @@ succeeds. This script looks for the calls by their names. It ends with status 1 
 
 Names alone don't show that a call succeeds, and a case that isn't played calls nothing: the cases have to be read.
 """
+import functools
 import glob
 import os
 import re
@@ -51,6 +52,7 @@ REASONS = {
     "disk::StartedRead::kept": "the devices in memory answer it, and the cases wait for it",
     "page::EncodeSize::encode_size": "`Writer::try_append_value` asks a value for it",
     "page::ActiveChecksum::new": "`Checksum::authoritative` answers it",
+    "page_digests::PagedBytes::new": "`PagedBytes::open` and `PagedContent::open` make it",
     "file::FileHost::new": "`file::open` makes it",
     "paged::Hand::chunk": "`Replay::chunk` is that of the replay's hand",
     "paged::Hand::clear": "`Replay::seek_to` clears the replay's hand",
@@ -60,8 +62,6 @@ REASONS = {
     "paged::Sealed::new": "`Writer::snapshot` makes it",
     "items::ItemSession::into_items": "its clause is an equation, and it can't fail",
     "segments::Entry::known_with": "`SegmentedLog::rotate` and `drop_before` take an entry in so",
-    "segments::Folder::close": "`SegmentedLog::rotate` gives the blob of a closed segment back so",
-    "segments::Folder::last_with_bytes": "`SegmentedLog::open` asks a folder for it",
     **{f"segments::Listing::{name}": LISTING
        for name in ("first", "open", "closed", "records", "reserve")},
     "session::Session::new": "`Session::recover` makes it",
@@ -120,18 +120,30 @@ def receiver(text, end):
     return re.search(r"\w*$", text[:at])[0] + calls
 
 
-def declared(name, owners, text):
-    """Which of these types a file declares a name with."""
+@functools.cache
+def lets(text):
+    """The `let` statements of a file: each with its names and what they get."""
+    return re.findall(r"\blet (?:mut )?\(?([^=;]*)=([^;]*)", text)
+
+
+@functools.cache
+def types_of(name, text):
+    """The types that a file declares a name with."""
     word = re.escape(name.removesuffix("()"))
     behind = r"\s*:\s*(?:&(?:'\w+ )?|mut |Option<|Box<|Vec<|Result<|\()*"
-    found = set()
-    for owner in owners:
-        types = rf"(?:{owner}|Recovery)" if owner == "Writer" else owner
-        if (re.search(rf"\b{word}{behind}{types}\b", text)
-                or re.search(rf"\blet (?:mut )?\(?[^=;]*\b{word}\b[^=;]*=[^;]*?\b{types}(?:::<[^;]*?>)?::", text)
-                or re.search(rf"\bfn {word}\b[^{{;]*->[^{{;]*\b{types}\b", text)):
-            found.add(owner)
+    found = set(re.findall(rf"\b{word}{behind}(\w+)", text))
+    for answer in re.findall(rf"\bfn {word}\b[^{{;]*?->([^{{;]*)", text):
+        found.update(re.findall(r"\w+", answer))
+    for names, value in lets(text):
+        if re.search(rf"\b{word}\b", names):
+            found.update(re.findall(r"(\w+)(?:::<[^;]*?>)?::", value))
     return found
+
+
+def declared(name, owners, text):
+    """Which of these types a file declares a name with."""
+    found = types_of(name, text)
+    return {owner for owner in owners if owner in found or owner == "Writer" and "Recovery" in found}
 
 
 def imports(text, crate, name):
@@ -144,7 +156,7 @@ def is_called(call, traits, owners, sources):
     crate, owner, name, takes = call
     generic = r"(?:::<[^;()]*?>)?"
     for caller, text in sources:
-        if caller == crate and caller != "tests":
+        if caller == crate and caller != "tests" or name not in text:
             continue
         if owner is None:
             if imports(text, crate, name) and re.search(rf"(?<!fn )(?<![.\w]){name}{generic}\(", text):
@@ -196,4 +208,5 @@ def main():
     sys.exit(1 if missing else 0)
 
 
-main()
+if __name__ == "__main__":
+    main()

@@ -1,12 +1,13 @@
-"""Lists the definitions that the promise, or a complete crate, has and that lack an example or a refutation, and counts
-them for the other crates: python3 examples/unexampled.py, or with --all to list these too.
+"""Lists the definitions that lack an example or a refutation, and counts them by crate: python3 examples/unexampled.py,
+or with --all to list those too that examples/unexampled.txt has.
 
 It begins at `Promises` in crates/session/specs/Promise.antt, and at each public clause of each crate with a library:
-the clauses of the calls that its src/lib.rt gives out, those of the traits that it gives out, and the ghost members of
-these. From there it goes from each definition to those of the specs of all crates that it names, by the imports of its
-file. A definition counts for the crate in whose specs it stands. An example or a refutation is a lemma in a file of
-crates/*/proofs whose name ends in Examples.antt, at the top or in a module there, two spaces further in. Its statement
-counts, that is its type, and its proof doesn't:
+the clauses of the calls that its src/lib.rt gives out, those of the traits that it gives out, the ghost members of
+these, and what stands in clauses for the values of its types. From there it goes from each definition to those of the
+specs of all crates that it names, by the imports of its file. A definition counts for the crate in whose specs it
+stands. Of a crate of COMPLETE each definition counts, whether a public clause reaches it or not. An example or a
+refutation is a lemma in a file of crates/*/proofs whose name ends in Examples.antt, at the top or in a module there,
+two spaces further in. Its statement counts, that is its type, and its proof doesn't:
 
 - A lemma whose statement ends in `→ ⊥` refutes the word with which the premise before the `⊥` begins:
   `RunIsExact .. → EachStepIsExact .. → ⊥` refutes `EachStepIsExact`.
@@ -16,11 +17,12 @@ counts, that is its type, and its proof doesn't:
 A relation needs an example and a refutation. It is a definition with arguments whose result is a type, a record with a
 proposition among its fields, or an indexed family. A function that computes a value needs an example alone, since an
 equation leaves no other value; and so does a type of data. Whether what is refuted is nearly right, a reader has to
-judge. A sentence is one of docs/DEFINITIONS.md that has the definition's name in bold.
+judge.
 
-It ends with status 1 if a definition that the promise reaches lacks an example, a refutation or a sentence, or if one
-in the specs of a crate of COMPLETE, whether a public clause reaches it or not, lacks an example or a refutation.
+It ends with status 1 if a definition lacks something and examples/unexampled.txt doesn't have it. That list has those
+that lacked something as the rule was made, and may only shrink: `--shrink` takes out what is no longer so.
 """
+import functools
 import glob
 import os
 import re
@@ -33,8 +35,13 @@ START = ("session", "specs", "Promise", "Promises")
 
 # The crates of whose definitions each has its examples: none may lack one.
 COMPLETE = ["store", "segments"]
-# The crates of which each definition that a public clause reaches has all three.
-SHOWN = ["cache", "scripts"]
+
+# Those that lack something, one to a line: the crate, the name and what is lacking.
+LIST = os.path.join(ROOT, "examples", "unexampled.txt")
+HEAD_OF_LIST = """\
+# The definitions that lack an example or a refutation, since they are older than the rule that each has both. A line
+# may only go: prove what is lacking, and run 'python3 examples/unexampled.py --shrink'. No new one comes here.
+"""
 HEAD = re.compile(r"^((?:(?:abbrev|opaque|unfoldable|pub|record|data) )+)([^\s:()]+)", re.M)
 LEMMA = re.compile(
     r"^((?:  )?)((?:(?:abbrev|pub) )*)([^\s:()]+) : ([^\n]*(?:\n\1 +[^\n]*)*)\n"
@@ -66,11 +73,12 @@ def imports(text):
 
 def modules(pattern):
     """The files of such names: each with its crate, its module, its text and what it imports."""
-    for path in glob.glob(os.path.join(ROOT, pattern)):
+    for path in sorted(glob.glob(os.path.join(ROOT, pattern))):
         text = read(path)
         yield path.split(os.sep)[-3], os.path.basename(path)[:-5], text, imports(text)
 
 
+@functools.cache
 def definitions():
     """The definitions of the specs: each with its text, and the definitions that it names."""
     found = {}
@@ -93,15 +101,21 @@ def clauses(text):
 
 
 def given_out(text, names):
-    """The parts of a file that are public: calls and traits of these names, and the public calls of their types."""
+    """The parts of a file that are public: calls and traits of these names, what stands in clauses for the values of
+    types of these names, and the public calls of such types."""
     for part in re.split(r"^(?=impl\b|pub (?:const )?fn |pub trait )", text, flags=re.M)[1:]:
         head = re.match(r"impl(?:<(?:[^<>]|<[^<>]*>)*>)? (\w+)|pub (?:const )?fn (\w+)|pub trait (\w+)", part)
-        if head and head[3] in names:
+        model = re.match(r"impl\b[^\n]* Model for (\w+).*?^( *ghost Value = .*?\};)", part, re.M | re.S)
+        if model and model[1] in names:
+            yield model[2]
+        elif head and head[3] in names:
             yield re.split(r"^\}", part, flags=re.M)[0]
         elif head and (head[1] or head[2]) in names:
-            yield from re.findall(r"^ *pub (?:const )?fn \w+.*?^ *\{$", part, re.M | re.S)
+            for call in re.finditer(r"^ *pub (?:const )?fn \w+", part, re.M):
+                yield public_items.head_of(part, call.start())
 
 
+@functools.cache
 def public_words():
     """The definitions that the public clauses of the crates name."""
     words = set()
@@ -147,8 +161,9 @@ def relations(found):
     return are
 
 
+@functools.cache
 def lemmas():
-    """The statements of the files of examples: each with what its words stand for."""
+    """The statements of the files of examples: each with what its words stand for, its name and its file."""
     shorts, found = {}, []
     for crate, module, text, known in modules("crates/*/proofs/*Examples.antt"):
         stated = list(LEMMA.finditer(text))
@@ -159,7 +174,7 @@ def lemmas():
             if "abbrev" in lemma[2]:
                 shorts[known[lemma[3]]] = (lemma[4] + " " + lemma[5], known)
             else:
-                found.append((lemma[4], known))
+                found.append((lemma[4], known, (lemma[3], f"crates/{crate}/proofs/{module}.antt")))
     return shorts, found
 
 
@@ -188,21 +203,60 @@ def premises(statement):
     return [part.strip() for part in parts]
 
 
-def sentences():
-    """The names that the page of definitions has in bold."""
-    with open(os.path.join(ROOT, "docs", "DEFINITIONS.md"), encoding="utf-8") as file:
-        bold = re.findall(r"\*\*(.+?)\*\*", file.read(), re.S)
-    return {name for names in bold for name in re.findall(r"`([^`]+)`", names)}
-
-
 def missing(names, are, shown, refuted):
     """Those of some definitions that lack an example, and those that lack a refutation."""
     return sorted(names - shown), sorted((names & are) - refuted)
 
 
-def report(what, names):
-    for crate, folder, module, name in names:
-        print(f"crates/{crate}/{folder}/{module}.antt: {name} has no {what}")
+def row(name):
+    """A definition as the list of those that lack something names it."""
+    return f"{name[0]} {name[3]}"
+
+
+@functools.cache
+def measured():
+    """The definitions, which of them are relations, which have an example, and which a refutation."""
+    found = definitions()
+    shorts, stated = lemmas()
+    shown, refuted = set(), set()
+    for statement, known, _ in stated:
+        parts = premises(statement)
+        if parts[-1] == "⊥" and len(parts) > 1:
+            refuted.add(known.get((words_in(parts[-2]) or [""])[0]))
+        else:
+            shown |= named(parts[-1], known, shorts)
+    return found, relations(found), shown, refuted
+
+
+def held(found):
+    """The definitions that are held to the rule, by crate: those that a public clause reaches, or the promise, and all
+    of a complete crate."""
+    public = reached(found, public_words()) | reached(found, [START])
+    crates = sorted({name[0] for name in public} | set(COMPLETE))
+    return {crate: {name for name in (found if crate in COMPLETE else public) if name[0] == crate} for crate in crates}
+
+
+def lacking():
+    """What lacks something: each definition with `example` or `refutation`."""
+    found, are, shown, refuted = measured()
+    for names in held(found).values():
+        bare, open_ones = missing(names, are, shown, refuted)
+        yield from ((name, "example") for name in bare)
+        yield from ((name, "refutation") for name in open_ones)
+
+
+def listed():
+    """What the list of those that lack something has."""
+    with open(LIST, encoding="utf-8") as file:
+        return [line for line in file.read().split("\n") if line and not line.startswith("#")]
+
+
+def shrink():
+    """Takes out of the list what is no longer so. It never adds to it."""
+    now = {f"{row(name)} {what}" for name, what in lacking()}
+    kept = [line for line in listed() if line in now]
+    with open(LIST, "w", encoding="utf-8") as file:
+        file.write(HEAD_OF_LIST + "\n".join(kept) + "\n")
 
 
 def counted(names, are, bare, open_ones):
@@ -211,39 +265,25 @@ def counted(names, are, bare, open_ones):
 
 
 def main():
-    found = definitions()
-    are = relations(found)
-    shorts, stated = lemmas()
-    shown, refuted = set(), set()
-    for statement, known in stated:
-        parts = premises(statement)
-        if parts[-1] == "⊥" and len(parts) > 1:
-            refuted.add(known.get((words_in(parts[-2]) or [""])[0]))
-        else:
-            shown |= named(parts[-1], known, shorts)
-    names = reached(found, [START])
-    bare, open_ones = missing(names, are, shown, refuted)
-    told = sentences()
-    mute = sorted(name for name in names if name[3] not in told)
-    report("example", bare)
-    report("refutation", open_ones)
-    report("sentence", mute)
-    wrong = len(bare) + len(open_ones) + len(mute)
-    public = reached(found, public_words())
-    rows = []
-    for crate in sorted({name[0] for name in public} | set(COMPLETE)):
-        its = {name for name in (found if crate in COMPLETE else public) if name[0] == crate}
-        lacking = missing(its, are, shown, refuted)
-        if crate in COMPLETE + SHOWN or "--all" in sys.argv:
-            report("example", lacking[0])
-            report("refutation", lacking[1])
-        if crate in COMPLETE:
-            wrong += len(lacking[0]) + len(lacking[1])
-        silent = sum(name[3] not in told for name in its)
-        rows.append(f"{crate}: {counted(its, are, *lacking)}, {silent} without a sentence")
-    print(f"the promise: {counted(names, are, bare, open_ones)}, {len(mute)} without a sentence")
-    print("\n".join(rows))
-    sys.exit(1 if wrong else 0)
+    if sys.argv[1:] == ["--shrink"]:
+        shrink()
+        return
+    if sys.argv[1:] not in ([], ["--all"]):
+        print("usage: python3 examples/unexampled.py [--all | --shrink]", file=sys.stderr)
+        sys.exit(2)
+    found, are, shown, refuted = measured()
+    known, new = set(listed()), 0
+    rows = [("the promise", reached(found, [START])), *held(found).items()]
+    for where, names in rows:
+        bare, open_ones = missing(names, are, shown, refuted)
+        for what, lack in (("example", bare), ("refutation", open_ones)):
+            fresh = [name for name in lack if f"{row(name)} {what}" not in known]
+            new += len(fresh)
+            for crate, folder, module, name in lack if "--all" in sys.argv and where != "the promise" else fresh:
+                print(f"crates/{crate}/{folder}/{module}.antt: {name} has no {what}")
+        print(f"{where}: {counted(names, are, bare, open_ones)}")
+    sys.exit(1 if new else 0)
 
 
-main()
+if __name__ == "__main__":
+    main()

@@ -3,7 +3,7 @@ use Rattle.std.specs.Prelude.{◌≡◌, ◌⊎◌, ◌+◌, ◌*◌, ◌<◌, �
 use Rattle.std.specs.Prelude.{Some, None}
 use Rattle.cache.specs.CacheState.{cached_page, CacheState, SameSettings}
 
--- the logical bytes of a page of a blob's content
+-- the logical bytes of a page of a blob's content; the last page may be shorter
 abbrev pub page_of_content : (P : ℕ) → List ℕ → (page : ℕ) → List ℕ
 page_of_content P content page = take P (drop (page * P) content)
 

@@ -22,6 +22,7 @@ pages_in zero P keys bytes = []
 pages_in (suc n) P [] bytes = []
 pages_in (suc n) P (key ∷ keys) bytes = (key, take P bytes) ∷ pages_in n P keys (drop P bytes)
 
+-- the pages that the slots in use hold, each under its key
 abbrev pub cached_pages : Slots → List ((ℕ × ℕ) × List ℕ)
 cached_pages t = pages_in t.used (non_zero_u16_get t.page_size) t.keys.items t.bytes.items
 

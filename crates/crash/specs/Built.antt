@@ -12,7 +12,7 @@ abbrev pub kept_slot : Option ActiveChecksum → Slot
 kept_slot None = Second
 kept_slot (Some w) = w.slot
 
--- the length of the slot that a flush repeats, in bytes; 0 with no durable slot
+-- the length of the slot that a flush repeats, in bytes; 0 if no slot is durable
 abbrev pub kept_len : Option ActiveChecksum → ℕ
 kept_len None = 0
 kept_len (Some w) = w.len

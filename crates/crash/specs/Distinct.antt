@@ -14,7 +14,9 @@ IsCutZero d at byte =
     ((whole : List ℕ) × IsWhole d.base d.since whole × (length whole ≤ at))
 
 -- what the checksum must distinguish for a slot of page p of an image that verifies over the page's
--- first n bytes, in three parts
+-- first n bytes, in three parts. In some whole state the slot held these six bytes. If it verified
+-- in that state over other bytes, their checksum is another one. And the bytes aren't the durable
+-- ones with zeros in them that a resize left.
 pub record SlotIsDistinct (sum : List ℕ → ℕ) (P : ℕ) (d : Disk) (p : ℕ) (page : List ℕ) (s : Slot)
     (n : ℕ) : Type 0 where
   -- (a) the slot held these six bytes in a whole state
@@ -32,7 +34,8 @@ pub record SlotIsDistinct (sum : List ℕ → ℕ) (P : ℕ) (d : Disk) (p : ℕ
       → (i byte : ℕ) → slice_get (take n page) i ≡ Some byte
       → slice_get d.base (p * (P + 12) + i) ≡ Some byte
 
--- no checksum collides in an image: each of its slots that verifies meets the three parts
+-- no checksum collides in an image, which is the premise of the promise on chance: each of its
+-- slots that verifies meets the three parts of `SlotIsDistinct`
 abbrev pub IsDistinct : (List ℕ → ℕ) → ℕ → Disk → List ℕ → Type 0
 IsDistinct sum P d image =
     (p : ℕ) (page : List ℕ) → slice_get (pages P image) p ≡ Some page → (s : Slot)
@@ -54,7 +57,7 @@ pub record IsOld (P : ℕ) (d : Disk) (p : ℕ) (s : Slot) (page : List ℕ) : T
   pub same : slot_of P s old ≡ slot_of P s page
   pub unwritten : (i byte : ℕ) → i < P → SomeWrites d.since (p * (P + 12) + i) byte → ⊥
 
--- in each whole state, each slot of each page is good or old
+-- each slot of each page is vouched for: in each whole state it is good or old
 abbrev pub IsVouched : (List ℕ → ℕ) → ℕ → Disk → Type 0
 IsVouched sum P d =
     (whole : List ℕ) → IsWhole d.base d.since whole → (p : ℕ) (page : List ℕ)

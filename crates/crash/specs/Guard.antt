@@ -8,8 +8,8 @@ use Rattle.page.specs.Page.{slot_bytes, slot_len, slot_crc, pages, verified_len}
 use Rattle.page.specs.declared.slot.Slot.{Slot}
 use Rattle.page.specs.declared.slot.ActiveChecksum.{ActiveChecksum}
 
--- the bytes stand at this offset in the base, each write since repeats them, and no whole state
--- ends before their end
+-- these bytes stand at this offset of the durable base, each unsynced write that touches them
+-- repeats the byte there, and no whole state ends before their end. So every image has them.
 pub record Fixed (d : Disk) (offset : ℕ) (bytes : List ℕ) : Type 0 where
   pub base : (i byte : ℕ) → slice_get bytes i ≡ Some byte
       → slice_get d.base (offset + i) ≡ Some byte
@@ -24,7 +24,9 @@ pub record IsSlotFor (sum : List ℕ → ℕ) (bytes slot : List ℕ) : Type 0 w
   pub len : slot_len slot ≡ length bytes
   pub crc : slot_crc slot ≡ sum bytes
 
--- these bytes begin page p, and one of its slots verifies over them, whatever a crash leaves
+-- these bytes, from 1 to P of them, begin page p, and a slot for them stands in one of its two
+-- places. Both are fixed, and no whole state ends before the page does. So in every image that slot
+-- verifies over them, whatever the checksum function.
 pub record IsPinned (sum : List ℕ → ℕ) (P : ℕ) (d : Disk) (p : ℕ) (s : Slot) (slot bytes : List ℕ) :
     Type 0 where
   pub some : 0 < length bytes
@@ -61,15 +63,15 @@ pub record IsGuarded (sum : List ℕ → ℕ) (P : ℕ) (content : List ℕ) (fl
 abbrev pub Guards : (List ℕ → ℕ) → ℕ → List ℕ → ℕ → Disk → Type 0
 Guards sum P content floor d = (p : ℕ) → p * P < floor → IsGuarded sum P content floor d p
 
--- each slot that verifies in a whole state does so over bytes of the content
+-- each slot that verifies in a whole state does so over bytes of the content, at the page's offset
 abbrev pub IsTruthful : (List ℕ → ℕ) → ℕ → List ℕ → Disk → Type 0
 IsTruthful sum P content d =
     (whole : List ℕ) → IsWhole d.base d.since whole → (p : ℕ) (page : List ℕ) →
     slice_get (pages P whole) p ≡ Some page → (s : Slot) →
     take (verified_len sum P s page) page ≡ take (verified_len sum P s page) (drop (p * P) content)
 
--- an image is chance-free: each slot of it that verifies did so in a whole state, in the same place
--- over the same bytes; so none verifies by a checksum collision
+-- an image is chance-free: each slot of it that verifies did so in some whole state, in the same
+-- place over the same bytes. So none verifies by a checksum collision.
 abbrev pub IsChanceFree : (List ℕ → ℕ) → ℕ → Disk → List ℕ → Type 0
 IsChanceFree sum P d image =
     (p : ℕ) (page : List ℕ) → slice_get (pages P image) p ≡ Some page → (s : Slot) →

@@ -5,7 +5,7 @@ use Rattle.disk.specs.Disk.{Disk, Life, LogGrows}
 use Rattle.crash.specs.Kept.{Through}
 use Rattle.crash.specs.Moments.{through_start, through_joins, through_then}
 
--- the same disk, except for its log
+-- a later disk is the same, except for its log
 abbrev pub SameButLog : Disk → Disk → Type 0
 SameButLog d e = e ≡ record d { log = e.log }
 

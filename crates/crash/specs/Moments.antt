@@ -16,7 +16,7 @@ each-append : (Q : Disk → Type 0) (ds es : List Disk) → Each Q ds → Each Q
 each-append Q [] es first second = second
 each-append Q (d ∷ ds) es first second = (first.0, each-append Q ds es first.1 second)
 
--- what follows from something at each moment holds at each, where that does
+-- if Q holds at each moment of a list and R follows from Q, then R holds at each
 pub each_then : (Q R : Disk → Type 0) (ds : List Disk) → ((d : Disk) → Q d → R d) → Each Q ds
     → Each R ds
 each_then Q R [] then each = each
@@ -66,7 +66,7 @@ through_end Q old new through =
     subst (λ (life : Life). Q life.present) (sym through.goes)
     (each_last Q old through.moments through.start through.each)
 
--- what follows from something that holds at each moment holds at each moment too
+-- if Q holds at each moment since a call began and R follows from Q, then R holds at each
 pub through_then : (Q R : Disk → Type 0) (old new : Life) → ((d : Disk) → Q d → R d)
     → Through Q old new → Through R old new
 unfolding Through

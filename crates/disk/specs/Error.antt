@@ -6,7 +6,7 @@ use Rattle.disk.specs.declared.error.Error.TheVariants.{SyncFailed, InvalidCheck
 use Rattle.disk.specs.declared.error.Error.TheVariants.{BlobInsufficientLength, OffsetOverflow}
 use Rattle.disk.specs.declared.error.Error.TheVariants.{OutOfMemory, IdsExhausted}
 
--- the number of an error
+-- the number of an error, by which files, scripts and clients name it
 abbrev pub number_of : Error → ℕ
 number_of ReadFailed = 1
 number_of WriteFailed = 2
@@ -18,7 +18,7 @@ number_of OffsetOverflow = 7
 number_of OutOfMemory = 8
 number_of IdsExhausted = 9
 
--- the bytes of an error's name
+-- the bytes of an error's name, such as `ReadFailed`
 abbrev pub name_of : Error → List ℕ
 name_of ReadFailed = codes "ReadFailed"
 name_of WriteFailed = codes "WriteFailed"

@@ -105,7 +105,7 @@ life_after_action actions.StartSync failed life = next life (starts failed life.
 life_after_action (actions.WaitSync name) failed life =
     next life (logged (WaitSync name) failed (waited name failed life.present))
 
--- a life goes on by these events
+-- a life that goes on by these events, in order
 abbrev pub life_after_events : Life → List Event → Life
 life_after_events life [] = life
 life_after_events life (e ∷ es) = life_after_events (life_after_action e.action e.failed life) es
@@ -115,7 +115,8 @@ abbrev pub names_in : List Entry → ℕ
 names_in [] = 0
 names_in (e ∷ es) = elim e.request [ StartSync ↦ 1 | _ ↦ 0 ] + names_in es
 
--- a sync of an earlier life, which can't be waited for any more
+-- a sync of an earlier life: it covers nothing and has failed, so that names go on over a crash and
+-- none of an earlier life can be waited for
 abbrev pub spent : List ℕ → Started
 spent bytes = record { covers = 0; bytes = bytes; failed = true }
 
@@ -130,12 +131,14 @@ at_rest bytes log = record {
   log = log;
 }
 
--- a life that begins with these bytes, all durable, and the log of the lives before
+-- a life that begins with these bytes, all durable, and with the log of the lives before
 abbrev pub begun : List ℕ → List Entry → Life
 begun bytes log =
     record { present = at_rest bytes log; past = [] }
 
--- the state of a blob in memory, as contracts see it
+-- the state of a blob in memory: the bytes that its life began with, the log of earlier lives, what
+-- its device was asked for in this life, which call is to fail, and whether a read of several
+-- ranges delivers the last one first
 pub record History : Type 0 where
   -- what it held when its life began
   pub first : List ℕ
@@ -148,7 +151,7 @@ pub record History : Type 0 where
   -- whether a read of several ranges delivers the last one first
   pub backwards : Bool
 
--- the life of a blob in memory: the one that began with its first bytes, after its events
+-- the life of a history: the one that began with its first bytes, after its events
 abbrev pub life_of : History → Life
 life_of h = life_after_events (begun h.first h.earlier) h.events
 

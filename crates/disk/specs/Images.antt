@@ -194,6 +194,7 @@ new_whole d e o f = let r = whole_last d.base d.since o in (r.0, rw (f.base, f.s
 abbrev NoShorter : Disk → List ℕ → Type 0
 NoShorter e new = (bytes : List ℕ) × IsWhole e.base e.since bytes × (length bytes ≤ length new)
 
+-- these bytes are no longer than some whole state of the disk
 abbrev NoLonger : Disk → List ℕ → Type 0
 NoLonger e new = (bytes : List ℕ) × IsWhole e.base e.since bytes × (length new ≤ length bytes)
 

@@ -15,12 +15,12 @@ abbrev pub listed_of : Range → List (ℕ × ℕ)
 listed_of ranges.Nothing = []
 listed_of (ranges.After before offset len) = before.value.value ++ (offset, len) ∷ []
 
--- the history with one action more, done or failed
+-- the history with one action more, with this outcome
 abbrev pub history_with : Action → Bool → History → History
 history_with action failed h =
     record h { events = h.events ++ record { action = action; failed = failed } ∷ [] }
 
--- the history of a device that was asked for nothing yet
+-- the history of a device that begins with these bytes and was asked for nothing yet
 abbrev pub begun_history : List ℕ → History
 begun_history bytes =
     record { first = bytes; earlier = []; events = []; failing = 0; backwards = false }

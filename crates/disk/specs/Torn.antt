@@ -15,7 +15,8 @@ abbrev pub torn_resize : List Bool → ℕ → List ℕ → List ℕ
 torn_resize [] len image = image
 torn_resize (flag ∷ keep) len image = if flag then applied (Resize len) image else image
 
--- operations in order, each with its flags: one for each byte of a write, one for a resize
+-- what a crash leaves if flags choose what was done of each operation: of a write each byte by a
+-- flag of its own, and a resize by one. A missing flag is false.
 abbrev pub torn : List Bool → List Operation → List ℕ → List ℕ
 torn keep [] image = image
 torn keep (Write offset bytes ∷ os) image =

@@ -13,6 +13,8 @@ use Rattle.disk.specs.History.{History}
 use Rattle.disk.specs.Memory.{AreWell}
 use Rattle.disk.specs.Past.{history_with}
 
+-- a blob in memory as contracts see it: its history, how many bytes it has memory for, and whether
+-- it was stopped, so that each call fails from then on
 pub record VecState : Type 0 where
   -- the bytes that the blob began with, and what it was asked for since
   pub history : History
@@ -55,12 +57,13 @@ TellsWait (Named name) started was now (Err _) =
     (was.stopped ≡ false → started ≤ name)
     × (now.history ≡ history_with (actions.WaitSync name) was.stopped was.history)
 
--- the range of a write ends within the greatest offset and within the memory that the blob has, so
--- the write doesn't fail before the device is asked
+-- a write of so many bytes at an offset isn't refused before the device is asked: it ends within
+-- the greatest offset and within the memory that the blob has
 abbrev pub HasRoom : (offset len : ℕ) → VecState → Type 0
 HasRoom offset len s = (offset + len < 2 ^ 64) × (offset + len ≤ s.room)
 
--- room is made for a write of so many bytes at an offset
+-- room is made for a write of so many bytes at an offset, and nothing else changed. An error
+-- changes nothing, and `OutOfMemory` comes only if there was no room.
 abbrev pub Reserves : (offset len : ℕ) → VecState → VecState → Result (Unit {0}) Error → Type 0
 Reserves offset len was now (Ok _) =
     (now.history ≡ was.history) × (now.stopped ≡ was.stopped) × HasRoom offset len now

@@ -5,7 +5,7 @@ use Rattle.disk.specs.declared.action.Action.{Action}
 use Rattle.disk.specs.declared.action.Action.TheVariants as actions
 use Rattle.disk.specs.declared.action.Event.{Event}
 
--- an action with this outcome
+-- an action with this outcome: whether it failed
 abbrev pub event : Action → Bool → Event
 event action failed = record { action = action; failed = failed }
 
@@ -68,7 +68,8 @@ pub record WasAskedUntil (events asked : List Event) : Type 0 where
   pub just : asked ≡ asked_by before ++ last
   pub fails : FailsIn (requests_of action) last
 
--- what a host was asked for in a blob's life, by whether a call of it failed
+-- what a host was asked for in a blob's life: exactly the device's events, in order, up to the
+-- first call that failed, and nothing since
 abbrev pub WasAsked : (failed : Bool) → (events asked : List Event) → Type 0
 WasAsked false events asked = WasAskedAll events asked
 WasAsked true events asked = WasAskedUntil events asked

@@ -9,7 +9,7 @@ use Rattle.file.specs.declared.mirror.Failure.{Failure}
 use Rattle.file.specs.declared.mirror.Request.{Request}
 use Rattle.file.specs.declared.mirror.Request.TheVariants.{Write, Resize, Sync}
 
--- a mirror as contracts see it: the blob in memory, and what the host was asked for
+-- a mirror as contracts see it: the blob in memory that it keeps, and what its host was asked for
 pub record MirrorState : Type 0 where
   pub kept : VecState
   pub asked : List Event

@@ -90,13 +90,17 @@ PassesOffsets s item =
     let w = s.writer in
     2 ^ 64 ≤ physical_blob_size w.page_size w.full_pages (length w.tip + length item)
 
+-- a push by its answer alone: at Ok the item was pushed; `OffsetOverflow` comes if the size passes
+-- all offsets, and nothing is asked for; any other error has a cause in this call or in the sync
+-- that was pending
 abbrev pub PushAnswers : (List ℕ → ℕ) → ItemsState → List ℕ → CacheState → Life → Life
     → Result (ItemsState × ℕ) Error → Type 0
 PushAnswers sum s item after old new (Ok r) = IsPushed sum s item after old new r.0 r.1
 PushAnswers sum s item after old new (Err OffsetOverflow) = (new ≡ old) × PassesOffsets s item
 PushAnswers sum s item after old new (Err e) = CallCause s.writer.sync old new e
 
--- a push, by its answer; an overflow comes before anything is asked for
+-- a push, by its answer; a size that passes all offsets is refused with `OffsetOverflow` before
+-- anything is asked for
 pub record PushGoes (sum : List ℕ → ℕ) (s : ItemsState) (item : List ℕ) (after : CacheState)
     (old new : Life) (result : Result (ItemsState × ℕ) Error) : Type 0 where
   pub answers : PushAnswers sum s item after old new result
@@ -114,18 +118,21 @@ pub record AreSynced (sum : List ℕ → ℕ) (s : ItemsState) (after : CacheSta
   pub same : items_of now new ≡ items_of s old
   pub durable : AllDurable sum now new
 
+-- a sync, by its answer: at Ok all items are durable; an error has a cause in this call or in the
+-- sync that was pending
 abbrev pub ItemsSyncGoes : (List ℕ → ℕ) → ItemsState → CacheState → Life → Life
     → Result ItemsState Error → Type 0
 ItemsSyncGoes sum s after old new (Ok now) = AreSynced sum s after old new now
 ItemsSyncGoes sum s after old new (Err e) = CallCause s.writer.sync old new e
 
--- what starting a sync answers for: all items are durable already, or once the sync has completed
+-- what the answer of a start of a sync stands for: all items are durable already, or are once the
+-- sync of this name has completed
 abbrev pub StartedFor : (List ℕ → ℕ) → ItemsState → Life → StartedSync → Type 0
 StartedFor sum s life Done = AllDurable sum s life
 StartedFor sum s life (Named name) =
     WouldBeDurable sum s.writer.page_size s.size (items_content s life) (count s) name life.present
 
--- a sync was started
+-- a sync was started: the items are the same, and its answer stands for all of them
 pub record AreStarted (sum : List ℕ → ℕ) (s : ItemsState) (after : CacheState) (old new : Life)
     (now : ItemsState) (started : StartedSync) : Type 0 where
   pub goes : GoOn sum s [] after old new now
@@ -133,18 +140,22 @@ pub record AreStarted (sum : List ℕ → ℕ) (s : ItemsState) (after : CacheSt
   pub sync : now.writer.sync ≡ started_state started
   pub covers : StartedFor sum now new started
 
+-- the start of a sync, by its answer: at Ok one was started for all items; an error has a cause in
+-- this call or in the sync that was pending
 abbrev pub ItemsStartSyncGoes : (List ℕ → ℕ) → ItemsState → CacheState → Life → Life
     → Result (ItemsState × StartedSync) Error → Type 0
 ItemsStartSyncGoes sum s after old new (Ok r) = AreStarted sum s after old new r.0 r.1
 ItemsStartSyncGoes sum s after old new (Err e) = CallCause s.writer.sync old new e
 
--- a wait was made: no sync is pending any more
+-- a wait was made: the items are the same, and no sync is pending any more
 pub record HaveWaited (sum : List ℕ → ℕ) (s : ItemsState) (cache : CacheState) (old new : Life)
     (now : ItemsState) : Type 0 where
   pub goes : GoOn sum s [] cache old new now
   pub same : items_of now new ≡ items_of s old
   pub sync : (name : ℕ) → now.writer.sync ≢ Pending name
 
+-- a wait, by its answer: at Ok no sync is pending any more; an error has a cause in this call or in
+-- the sync that was pending
 abbrev pub ItemsWaitGoes : (List ℕ → ℕ) → ItemsState → CacheState → Life → Life
     → Result ItemsState Error → Type 0
 ItemsWaitGoes sum s cache old new (Ok now) = HaveWaited sum s cache old new now
@@ -157,8 +168,8 @@ HasRoomFor s item =
     FitsBlob w.page_size w.full_pages (length w.tip + length item)
     × (length w.tip + length item ≤ w.capacity)
 
--- a push of an item, if the buffer has room for it, over whatever blob. An overflow comes before
--- anything is asked for; memory is asked for only where there is room
+-- a push of an item that makes no device call, if the buffer has room for it, over whatever blob.
+-- `OffsetOverflow` comes before anything else; memory is asked for only if there is room.
 abbrev pub TryPushGoes : (List ℕ → ℕ) → ItemsState → List ℕ → ItemsState → Result (Option ℕ) Error
     → Type 0
 TryPushGoes sum s item now (Ok (Some i)) =
@@ -192,7 +203,8 @@ pub record HaveRecovered (sum : List ℕ → ℕ) (s : ℕ) (cache after : Cache
   -- no device call failed
   pub served : NoneRefused old.present new.present
 
--- a recovery of items, whose errors are those of a recovery of the blob
+-- a recovery of items, by its answer: at Ok the whole items of the text that was readable, all of
+-- them durable; an error is one of a recovery of the blob
 abbrev pub RecoversItems : (List ℕ → ℕ) → (s : ℕ) → (cache after : CacheState) → (capacity : ℕ)
     → Life → Life → Result ItemsState Error → Type 0
 RecoversItems sum s cache after capacity old new (Ok now) =
@@ -200,9 +212,9 @@ RecoversItems sum s cache after capacity old new (Ok now) =
 RecoversItems sum s cache after capacity old new (Err e) =
     Recovers sum cache capacity old new (Err e)
 
--- a recovery, by its answer: what it brings back begins with the items that were durable; and where
--- no checksum collides, it is the first of those that a crash was to leave. An overflow of the
--- capacity comes before anything is asked for
+-- a recovery, by its answer: what it brings back begins with the items that were durable; and if no
+-- checksum collides, it is a prefix of those that a crash was to leave. A capacity whose rounding
+-- passes its type is refused with `OffsetOverflow` before anything is asked for.
 pub record ItemsRecoverGoes (sum : List ℕ → ℕ) (s : ℕ) (cache after : CacheState) (capacity : ℕ)
     (old new : Life) (result : Result ItemsState Error) : Type 0 where
   pub answers : RecoversItems sum s cache after capacity old new result
@@ -228,9 +240,9 @@ CrashesAndRecovers sum s cache after capacity keep old new (Err e) =
     let d = old.present in
     RecoversItems sum s cache after capacity (begun (torn keep d.since d.base) d.log) new (Err e)
 
--- a crash and the recovery after it, by their answer: what comes back begins with the items that
--- were durable as the crash came; and where no checksum collides in what the crash left, it is the
--- first of those that were pushed
+-- a crash and the recovery after it, by the answer: what comes back begins with the items that were
+-- durable as the crash came; and if no checksum collides in what the crash left, it is a prefix of
+-- those that were pushed
 pub record ItemsCrashGoes (sum : List ℕ → ℕ) (s : ℕ) (cache after : CacheState) (capacity : ℕ)
     (keep : List Bool) (old new : Life) (result : Result ItemsState Error) : Type 0 where
   pub answers : CrashesAndRecovers sum s cache after capacity keep old new result
@@ -247,16 +259,17 @@ ItemReadRefused old new ReadFailed = HasFailed ReadFailed old.present new.presen
 ItemReadRefused old new OutOfMemory = NoneFailed old.present new.present
 ItemReadRefused old new _ = ⊥
 
--- where the item of this number begins, of n items of s bytes. OffsetOverflow, where its bytes pass
--- the greatest `u64`, comes before BlobInsufficientLength
+-- where the item of this number begins, of n items of s bytes, by the answer: the offset; or
+-- `OffsetOverflow` if its bytes pass the greatest `u64`; or, if they don't,
+-- `BlobInsufficientLength` if there is no such item
 abbrev pub ItemIsAt : (s n : ℕ) → (i : ℕ) → Result ℕ Error → Type 0
 ItemIsAt s n i (Ok offset) = (offset ≡ i * s) × (i * s + s < 2 ^ 64) × (i < n)
 ItemIsAt s n i (Err OffsetOverflow) = (2 ^ 64 ≤ i * s + s) × (n ≤ i)
 ItemIsAt s n i (Err BlobInsufficientLength) = (i * s + s < 2 ^ 64) × (n ≤ i)
 ItemIsAt s n i (Err _) = ⊥
 
--- the item of this number; if there is none, the error comes before anything is asked for. Unless
--- the answer is ReadFailed, no read of the device failed
+-- a read of the item of this number, by its answer. If there is none, the error comes before
+-- anything is asked for. Unless the answer is `ReadFailed`, no read of the device failed.
 abbrev pub GetGoes : (s : ℕ) → List ℕ → (i : ℕ) → List ℕ → Life → Life → Result (Unit {0}) Error
     → Type 0
 GetGoes s content i buf old new (Ok u) =
@@ -272,6 +285,7 @@ abbrev pub AreRisingFrom : ℕ → List ℕ → Type 0
 AreRisingFrom n [] = Unit {0}
 AreRisingFrom n (i ∷ indices) = (n ≤ i) × AreRisingFrom (i + 1) indices
 
+-- each of these numbers is greater than the one before
 abbrev pub AreRising : List ℕ → Type 0
 AreRising indices = AreRisingFrom 0 indices
 
@@ -302,9 +316,9 @@ ItemsAreAt s n indices (Err e) = FirstRefused s n indices e
 abbrev pub item_ranges : (s : ℕ) → List ℕ → List (ℕ × ℕ)
 item_ranges s indices = ranges_of s (map (λ i. i * s) indices)
 
--- the items of these numbers, joined, and how many of them needed no device; the first number that
--- is refused decides, before anything is asked for. Unless the answer is ReadFailed, no read of the
--- device failed
+-- a read of the items of these numbers, by its answer: the items joined, and how many of them
+-- needed no device. The first number that is refused decides, before anything is asked for. Unless
+-- the answer is `ReadFailed`, no read of the device failed.
 abbrev pub GetManyGoes : (s : ℕ) → Tail → List ℕ → (indices : List ℕ) → CacheState → List ℕ → Life
     → Life → Result ℕ Error → Type 0
 GetManyGoes s t content indices cache buf old new (Ok n) =

@@ -33,6 +33,8 @@ AreGivenWithSnapshot sum s now r after old new =
     AreGivenBack sum s now after old new × IsItemsSnapshot sum r after new × (r.size ≡ s.size)
     × (r.tail.id ≡ s.writer.id) × (r.tail.full_pages ≤ now.writer.full_pages)
 
+-- the making of a snapshot, by its answer: at Ok it reads all items, which go on; an error has a
+-- cause in this call or in the sync that was pending
 abbrev pub ItemsSnapshotGoes : (List ℕ → ℕ) → ItemsState → CacheState → Life → Life
     → Result (ItemsState × ItemsSnapshotState) Error → Type 0
 ItemsSnapshotGoes sum s after old new (Ok r) = HasItemsSnapshot sum s after old new r.0 r.1
@@ -70,6 +72,8 @@ AreGivenWithReplay sum s now r after old new =
     × (r.replay.tail.page_size ≡ now.writer.page_size)
     × (r.replay.tail.full_pages ≤ now.writer.full_pages)
 
+-- the making of a replay, by its answer: at Ok it is to give all items, which go on; an error has a
+-- cause in this call or in the sync that was pending
 abbrev pub ItemsReplayGoes : (List ℕ → ℕ) → ItemsState → CacheState → Life → Life
     → Result (ItemsState × ItemsReplayState) Error → Type 0
 ItemsReplayGoes sum s after old new (Ok r) = HasItemsReplay sum s after old new r.0 r.1
@@ -84,8 +88,8 @@ NextItemRefused r now old new OutOfMemory =
     length now.replay.hand ≡ length r.replay.hand → NoneFailed old.present new.present
 NextItemRefused r now old new _ = ⊥
 
--- a replay gives the next item, or none where none is left; where it is refused, the items that it
--- is to give are those that it was to give
+-- a replay's next item, by the answer: the item, or none if none is left. If it is refused, the
+-- items that the replay is to give are those that it was to give.
 abbrev pub NextItemGoes : (r now : ItemsReplayState) → Life → Life → Result (Option (List ℕ)) Error
     → Type 0
 NextItemGoes r now old new (Ok (Some item)) = items_left r old ≡ item ∷ items_left now new

@@ -19,12 +19,13 @@ use Rattle.items.specs.declared.run.ItemReply.{ItemReply}
 use Rattle.items.specs.declared.run.ItemReply.TheVariants.{Item, BadItem, Bytes, Length, Done}
 use Rattle.items.specs.declared.run.ItemReply.TheVariants.{Fault, Closed}
 
--- a session between two steps: its items are such, or it has none, and the cache serves on
+-- a session between two steps: its items are items between two calls, or it has none, and the cache
+-- is fresh
 abbrev pub IsOpenSession : (List ℕ → ℕ) → Option ItemsState → CacheState → Life → Type 0
 IsOpenSession sum None cache life = IsFresh cache
 IsOpenSession sum (Some s) cache life = AreItems sum s cache life
 
--- what a step leaves, whatever its reply: what a call leaves that pushes `more` items, or, where
+-- what a step leaves, whatever its reply: what a call leaves that pushes the items `more`; or, if
 -- the session has no items, all as it was
 abbrev pub StepLeaves : (List ℕ → ℕ) → Option ItemsState → List (List ℕ)
     → (cache after : CacheState) → Life → Life → Type 0
@@ -32,7 +33,7 @@ StepLeaves sum None more cache after old new = (after ≡ cache) × (new ≡ old
 StepLeaves sum (Some s) more cache after old new =
     ItemsCallLeaves sum s (items_of s old ++ more) cache after old new
 
--- the pages and the items have the sizes that they had, where there still are items
+-- the pages and the items have the sizes that they had, if there are items still
 abbrev pub SameSizes : (was now : Option ItemsState) → Type 0
 SameSizes None None = Unit {0}
 SameSizes None (Some t) = ⊥
@@ -47,7 +48,8 @@ pub record DidAndSays (sum : List ℕ → ℕ) (was now : Option ItemsState) (mo
   pub sizes : SameSizes was now
   pub says : Says
 
--- a push: an item of another size changes nothing, and a refusal ends the items
+-- the reply to a push, by cases: an item of another size changes nothing, and a refusal ends the
+-- items
 abbrev pub SaysPushed : (List ℕ → ℕ) → List ℕ → (was now : Option ItemsState) → CacheState → Life
     → Life → ItemReply → Type 0
 SaysPushed sum item None now after old new reply = (reply ≡ Closed) × (now ≡ None)
@@ -59,6 +61,7 @@ SaysPushed sum item (Some s) now after old new (Fault e) =
     (now ≡ None) × PushGoes sum s item after old new (Err e)
 SaysPushed sum item (Some s) now after old new _ = ⊥
 
+-- a step that pushes an item: what it leaves, and its reply as `SaysPushed` has it
 abbrev pub PushedItem : (List ℕ → ℕ) → List ℕ → (was now : Option ItemsState)
     → (cache after : CacheState) → Life → Life → ItemReply → Type 0
 PushedItem sum item was now cache after old new reply =
@@ -71,8 +74,8 @@ GivesItem s i old new (Ok bytes) =
     (slice_get (items_of s old) i ≡ Some bytes.items) × NoneFailed old.present new.present
 GivesItem s i old new (Err e) = GetGoes s.size (items_content s old) i [] old new (Err e)
 
--- a read of an item, which leaves the items as they were; unless it answers ReadFailed, no read of
--- the device failed
+-- the reply to a read of an item, by cases: the items are as they were, and unless it has
+-- `ReadFailed` no read of the device failed
 abbrev pub SaysGot : (i : ℕ) → (was now : Option ItemsState) → Life → Life → ItemReply → Type 0
 SaysGot i None now old new reply = (reply ≡ Closed) × (now ≡ None)
 SaysGot i (Some s) now old new (Bytes bytes) =
@@ -82,17 +85,18 @@ SaysGot i (Some s) now old new (Fault e) =
     (now ≡ Some s) × GetGoes s.size (items_content s old) i [] old new (Err e)
 SaysGot i (Some s) now old new _ = ⊥
 
+-- a step that reads an item: what it leaves, and its reply as `SaysGot` has it
 abbrev pub GotItem : (List ℕ → ℕ) → (i : ℕ) → (was now : Option ItemsState)
     → (cache after : CacheState) → Life → Life → ItemReply → Type 0
 GotItem sum i was now cache after old new reply =
     DidAndSays sum was now [] cache after old new (SaysGot i was now old new reply)
 
--- how many items there are
+-- the reply that states how many items there are
 abbrev pub TellsLength : Option ItemsState → ItemReply → Type 0
 TellsLength None reply = reply ≡ Closed
 TellsLength (Some s) reply = reply ≡ Length (count s)
 
--- a sync, after which all items are durable; a refusal ends the items
+-- the reply to a sync, by cases: after it all items are durable, and a refusal ends the items
 abbrev pub SaysSynced : (List ℕ → ℕ) → (was now : Option ItemsState) → CacheState → Life → Life
     → ItemReply → Type 0
 SaysSynced sum None now after old new reply = (reply ≡ Closed) × (now ≡ None)
@@ -102,12 +106,13 @@ SaysSynced sum (Some s) now after old new (Fault e) =
     (now ≡ None) × CallCause s.writer.sync old new e
 SaysSynced sum (Some s) now after old new _ = ⊥
 
+-- a step that syncs: what it leaves, and its reply as `SaysSynced` has it
 abbrev pub SyncedItems : (List ℕ → ℕ) → (was now : Option ItemsState) → (cache after : CacheState)
     → Life → Life → ItemReply → Type 0
 SyncedItems sum was now cache after old new reply =
     DidAndSays sum was now [] cache after old new (SaysSynced sum was now after old new reply)
 
--- a step
+-- a step was taken, by its kind: what it leaves, and what its reply states
 abbrev pub DidItem : (List ℕ → ℕ) → ItemStep → (was now : Option ItemsState)
     → (cache after : CacheState) → Life → Life → ItemReply → Type 0
 DidItem sum (Push item) was now cache after old new reply =
@@ -159,7 +164,7 @@ pub record RanItems (sum : List ℕ → ℕ) (steps : List ItemStep) (was now : 
   pub stops : (taken : ℕ) → taken ≤ length steps
       → Stop sum steps added was now cache old new taken
 
--- room for the replies was refused: nothing changed
+-- memory for the replies was refused, and nothing changed
 pub record IsNotRun (was now : Option ItemsState) (cache after : CacheState) (old new : Life)
     (earlier replies : List ItemReply) : Type 0 where
   pub same_session : now ≡ was
@@ -167,7 +172,7 @@ pub record IsNotRun (was now : Option ItemsState) (cache after : CacheState) (ol
   pub same_replies : replies ≡ earlier
   pub same_cache : after ≡ cache
 
--- a run, by its answer
+-- a run, by its answer: `RanItems`, or `IsNotRun`
 pub record ItemsRunGoes (sum : List ℕ → ℕ) (steps : List ItemStep) (was now : Option ItemsState)
     (cache after : CacheState) (old new : Life) (earlier replies : List ItemReply)
     (result : Result (Unit {0}) Error) : Type 0 where

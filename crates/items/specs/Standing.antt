@@ -19,10 +19,11 @@ use Rattle.items.specs.State.{ItemsState, ItemsReplayState, ItemsSnapshotState}
 
 -- ---- items
 
--- the bytes of the items, and the items
+-- the content of items: their bytes, joined
 abbrev pub items_content : ItemsState → Life → List ℕ
 items_content s life = content s.writer life.present.readable
 
+-- the items, in order
 abbrev pub items_of : ItemsState → Life → List (List ℕ)
 items_of s life = items s.size (items_content s life)
 
@@ -30,8 +31,8 @@ items_of s life = items s.size (items_content s life)
 abbrev pub count : ItemsState → ℕ
 count s = writer.size_of s.writer / s.size
 
--- items between two calls, as the last call left them: their writer is ready, they are whole, and
--- chance aside (no checksum collides) a crash leaves only the first of them
+-- items between two calls, as the last call left them: their size isn't 0, their writer is ready,
+-- the content is whole items, and a crash, if no checksum collides, leaves a prefix of them
 pub record StandAsItems (sum : List ℕ → ℕ) (s : ItemsState) (cache : CacheState) (life : Life)
     : Type 0 where
   pub some : 0 < s.size
@@ -40,24 +41,25 @@ pub record StandAsItems (sum : List ℕ → ℕ) (s : ItemsState) (cache : Cache
   pub whole : length (items_content s life) ≡ length (items_content s life) / s.size * s.size
   pub only : LeavesItsContent sum s.writer life.present
 
--- `StandAsItems`, as contracts name it: a caller hands it from call to call, and has no need to see
--- into it
+-- items between two calls, as `StandAsItems` has it. Contracts have this word: a caller hands it
+-- from call to call, and has no need to see into it.
 unfoldable pub AreItems : (List ℕ → ℕ) → ItemsState → CacheState → Life → Type 0
 AreItems sum s cache life = StandAsItems sum s cache life
 
--- what a client hands on: they are items, as many as their count, on pages of the cache's size
+-- what a caller hands on between two calls: they are items, as many as their count, on pages of the
+-- cache's size
 abbrev pub AreReady : (List ℕ → ℕ) → ItemsState → CacheState → Life → Type 0
 AreReady sum s cache life =
     AreItems sum s cache life × (length (items_of s life) ≡ count s)
     × (cache.page_size ≡ s.writer.page_size)
 
--- a call over the blob with this id: all other items that have this cache stay such
+-- a call over the blob with this id: all other items that have this cache stay items
 abbrev pub OtherItemsStay : ℕ → CacheState → CacheState → Type 0
 OtherItemsStay id cache after =
     (sum : List ℕ → ℕ) (s : ItemsState) (life : Life) → s.writer.id ≢ id
     → AreItems sum s cache life → AreItems sum s after life
 
--- a call over a blob that is new to the cache: all items that have this cache stay such
+-- a call over a blob that is new to the cache: all items that have this cache stay items
 abbrev pub AllItemsStay : CacheState → CacheState → Type 0
 AllItemsStay cache after =
     (sum : List ℕ → ℕ) (s : ItemsState) (life : Life)
@@ -68,7 +70,7 @@ abbrev pub IsNewToItems : ℕ → CacheState → Type 0
 IsNewToItems id cache =
     (sum : List ℕ → ℕ) (s : ItemsState) (life : Life) → AreItems sum s cache life → s.writer.id ≢ id
 
--- a call that only reads: the items stay such, the same ones
+-- a call that only reads: the items stay the same
 abbrev pub ItemsStay : (List ℕ → ℕ) → CacheState → CacheState → Life → Life → Type 0
 ItemsStay sum cache after old new =
     (s : ItemsState) → AreItems sum s cache old
@@ -76,13 +78,15 @@ ItemsStay sum cache after old new =
 
 -- ---- snapshots
 
--- the bytes of the items that a snapshot reads, the items, and how many they are
+-- the bytes of the items that a snapshot reads, joined
 abbrev pub bytes_over : ItemsSnapshotState → Life → List ℕ
 bytes_over r life = logical_bytes r.tail life.present.readable
 
+-- the items that a snapshot reads, in order
 abbrev pub items_over : ItemsSnapshotState → Life → List (List ℕ)
 items_over r life = items r.size (bytes_over r life)
 
+-- how many items a snapshot reads
 abbrev pub count_over : ItemsSnapshotState → ℕ
 count_over r = tail_size r.tail / r.size
 
@@ -94,7 +98,8 @@ pub record StandsOverItems (sum : List ℕ → ℕ) (r : ItemsSnapshotState) (ca
   pub size : tail_size r.tail ≡ length (bytes_over r life)
   pub whole : length (bytes_over r life) ≡ length (bytes_over r life) / r.size * r.size
 
--- `StandsOverItems`, as contracts name it
+-- a snapshot between two calls, as `StandsOverItems` has it. Contracts have this word: a caller
+-- hands it from call to call, and has no need to see into it.
 unfoldable pub IsItemsSnapshot : (List ℕ → ℕ) → ItemsSnapshotState → CacheState → Life → Type 0
 IsItemsSnapshot sum r cache life = StandsOverItems sum r cache life
 
@@ -137,14 +142,15 @@ IsNewToSnapshots id cache =
 
 -- ---- replays
 
--- the bytes of the items that a replay goes over, and the items that it is still to give
+-- the bytes of all items that a replay goes over, joined
 abbrev pub bytes_along : ItemsReplayState → Life → List ℕ
 bytes_along r life = logical_bytes r.replay.tail life.present.readable
 
+-- the items that a replay is still to give, in order
 abbrev pub items_left : ItemsReplayState → Life → List (List ℕ)
 items_left r life = items r.size (drop r.replay.position (bytes_along r life))
 
--- how many items a replay goes over
+-- how many items a replay goes over in all
 abbrev pub count_along : ItemsReplayState → ℕ
 count_along r = tail_size r.replay.tail / r.size
 
@@ -156,7 +162,8 @@ pub record ReplaysItems (sum : List ℕ → ℕ) (r : ItemsReplayState) (life : 
   pub whole : length (bytes_along r life) ≡ length (bytes_along r life) / r.size * r.size
   pub between : r.replay.position ≡ r.replay.position / r.size * r.size
 
--- `ReplaysItems`, as contracts name it
+-- a replay between two calls, as `ReplaysItems` has it. Contracts have this word: a caller hands it
+-- from call to call, and has no need to see into it.
 unfoldable pub IsItemsReplay : (List ℕ → ℕ) → ItemsReplayState → Life → Type 0
 IsItemsReplay sum r life = ReplaysItems sum r life
 
@@ -178,10 +185,10 @@ AllReplaysStay sum old new = (r : ItemsReplayState) → StaysAlong sum r old new
 
 -- ---- what calls leave
 
--- what a call of items leaves, whatever it answers: the cache serves on, for the items and the
--- snapshots of other blobs too; what was durable is durable at each moment since, and what a
--- started sync would make durable it still would; chance aside a crash at any of these moments
--- leaves only the first of these items; and the snapshots and replays of the blob go on
+-- what a call of items leaves, whatever it answers: a fresh cache, and the items and the snapshots
+-- of other blobs on it; what was durable is durable at each moment since, and what a started sync
+-- would make durable it still would; a crash at any of these moments, if no checksum collides,
+-- leaves a prefix of these items; and the snapshots and replays of the blob stay
 pub record ItemsCallLeaves (sum : List ℕ → ℕ) (s : ItemsState) (all : List (List ℕ))
     (cache after : CacheState) (old new : Life) : Type 0 where
   pub fresh : IsFresh after
@@ -193,16 +200,17 @@ pub record ItemsCallLeaves (sum : List ℕ → ℕ) (s : ItemsState) (all : List
   pub snapshots : SnapshotsStay sum s.writer.full_pages cache after old new
   pub replays : ReplaysStay sum s.writer.page_size s.writer.full_pages old new
 
--- a read of items leaves what a call does that adds no item, and the device was only read
+-- what a read of items leaves, whatever it answers: what a call leaves that adds no item, and the
+-- device was only read
 pub record ItemReadLeaves (sum : List ℕ → ℕ) (s : ItemsState) (cache after : CacheState)
     (old new : Life) : Type 0 where
   pub looked : Looked old new
   pub call : ItemsCallLeaves sum s (items_of s old) cache after old new
 
--- what a recovery leaves, whatever it answers: the cache serves on, for the items and the snapshots
--- of other blobs too; what was durable is so at each moment since; and if all was durable as the
--- recovery began, then at each moment since all items of the text are durable, and chance aside a
--- crash leaves only the first of them
+-- what a recovery leaves, whatever it answers: a fresh cache, and the items and the snapshots of
+-- other blobs on it; what was durable is so at each moment since; and if all was durable as the
+-- recovery began, then at each moment since all items of the text are durable, and a crash, if no
+-- checksum collides, leaves a prefix of them
 pub record ItemsRecoveryLeaves (sum : List ℕ → ℕ) (s : ℕ) (cache after : CacheState)
     (old new : Life) : Type 0 where
   pub fresh : IsFresh after
@@ -214,8 +222,8 @@ pub record ItemsRecoveryLeaves (sum : List ℕ → ℕ) (s : ℕ) (cache after :
   pub only : let T = text sum cache.page_size old.present.readable in IsDurable old.present
       → LeavesItems sum cache.page_size s (items s T) old new
 
--- what a crash and the recovery after it leave, whatever they answer: the cache serves on, for the
--- items and the snapshots of other blobs too, and what was durable still is
+-- what a crash and the recovery after it leave, whatever they answer: a fresh cache, and the items
+-- and the snapshots of other blobs on it; and what was durable still is
 pub record ItemsCrashLeaves (sum : List ℕ → ℕ) (s : ℕ) (cache after : CacheState) (was is : Disk)
     : Type 0 where
   pub fresh : IsFresh after

@@ -20,7 +20,7 @@ abbrev pub writer_and_tail : Result (WriterState × ReaderState) Error
 writer_and_tail (Ok r) = Ok (r.0, r.1.tail)
 writer_and_tail (Err e) = Err e
 
--- the making of a reader
+-- the making of a reader costs what the making of a snapshot costs
 abbrev pub ReaderCosts : WriterState → (cache after : CacheState) → Life → Life
     → Result (WriterState × ReaderState) Error → Type 0
 ReaderCosts w cache after old new result =
@@ -46,15 +46,15 @@ frame_calls t content offset =
 abbrev pub IsQuiet : (cache after : CacheState) → Life → Life → Type 0
 IsQuiet cache after old new = (new ≡ old) × (after ≡ cache)
 
--- a read of a range: at most one device call for each of its pages, and none where the cache holds
--- them
+-- what a read of a range costs: at most one device call for each of its full pages, and none if the
+-- cache holds them
 pub record RangeCosts (t : Tail) (range : ℕ × ℕ) (cache after : CacheState) (old new : Life)
     : Type 0 where
   pub calls : AsksAtMost (pages_met t range) old new
   pub held : is_served cache t range ≡ true → IsQuiet cache after old new
 
--- a read of the frame that begins at an offset, whatever it answers; if no frame begins there, the
--- read asks for nothing
+-- what a read of the frame at an offset costs, whatever it answers: at most `frame_calls`, and
+-- nothing if the cache holds its pages, or if no frame begins there
 pub record FrameCosts (t : Tail) (content : List ℕ) (offset : ℕ) (cache after : CacheState)
     (old new : Life) : Type 0 where
   pub calls : AsksAtMost (frame_calls t content offset) old new
@@ -73,8 +73,9 @@ frames_calls t content from zero = 0
 frames_calls t content from (suc n) =
     frames_calls t content from n + frame_calls t content (after_frames content from n)
 
--- a read of the next record from an offset on, whatever it answers: it reads the frames that hold
--- no record, each once, and one frame more
+-- what a read of the next record from an offset on costs, whatever it answers: it reads the frames
+-- that hold no record, each once, and one frame more; and it asks for nothing if the cache holds
+-- the pages of these
 pub record NextCosts (own : List ℕ → ℕ) (t : Tail) (content : List ℕ) (from : ℕ)
     (cache after : CacheState) (old new : Life) : Type 0 where
   pub passed : ℕ

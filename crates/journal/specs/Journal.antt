@@ -36,8 +36,8 @@ use Rattle.journal.specs.declared.frame.Found.{Found}
 use Rattle.journal.specs.Frame.{frame, frame_len, record_of, records, listed, whole_frames}
 use Rattle.journal.specs.Frame.{AreWholeFrames, IsPrefix}
 
--- a writer between two calls, as the last call left it: the writer is ready, its size is that of
--- its content, and chance aside (no checksum collides) a crash leaves only a prefix of its content
+-- a writer between two calls, as the last call left it: it is ready, its size is that of its
+-- content, and a crash, if no checksum collides, leaves a prefix of its content
 pub record IsBetweenCalls (sum : List ℕ → ℕ) (w : WriterState) (cache : CacheState) (life : Life)
     : Type 0 where
   pub ready : IsReady sum w cache life
@@ -50,8 +50,8 @@ pub record IsJournalNow (sum : List ℕ → ℕ) (w : WriterState) (cache : Cach
   pub between : IsBetweenCalls sum w cache life
   pub whole : AreWholeFrames (content w life.present.readable)
 
--- `IsJournalNow`, as contracts name it: a caller hands it from call to call, and has no need to see
--- into it
+-- a journal between two calls, as `IsJournalNow` has it. Contracts have this word: a caller hands
+-- it from call to call, and has no need to see into it.
 unfoldable pub IsJournal : (List ℕ → ℕ) → WriterState → CacheState → Life → Type 0
 IsJournal sum w cache life = IsJournalNow sum w cache life
 
@@ -72,7 +72,7 @@ abbrev pub IsNewToJournals : ℕ → CacheState → Type 0
 IsNewToJournals id cache =
     (sum : List ℕ → ℕ) (w : WriterState) (life : Life) → IsJournal sum w cache life → w.id ≢ id
 
--- chance aside, a crash at any moment since leaves a prefix of this content
+-- at each moment since, a crash, if no checksum collides, leaves a prefix of this content
 abbrev pub LeavesContent : (List ℕ → ℕ) → ℕ → List ℕ → Life → Life → Type 0
 LeavesContent sum P content old new = LeavesOnly sum P content content old new
 
@@ -89,12 +89,13 @@ pub record OnlyReads (sum : List ℕ → ℕ) (w : WriterState) (cache after : C
   pub kept : KeepsAllFloors sum w.page_size old new
   pub only : LeavesContent sum w.page_size (content w old.present.readable) old new
 
--- the records that a journal has
+-- the records that a journal has, in order
 abbrev pub records_in : (own : List ℕ → ℕ) → WriterState → Life → List (List ℕ)
 records_in own w life = records own (content w life.present.readable)
 
--- the content's first n records are committed: they lie within the floor, which is how many of the
--- content's first bytes every image (what a crash may leave) keeps
+-- the content's first n records are committed: they lie within the floor, which is the durable
+-- prefix of the content: so many of its first bytes as every image (a possible post-crash state)
+-- keeps
 pub record Commits (sum own : List ℕ → ℕ) (P : ℕ) (content : List ℕ) (n : ℕ) (d : Disk)
     : Type 0 where
   pub floor : ℕ
@@ -106,7 +107,7 @@ pub record Commits (sum own : List ℕ → ℕ) (P : ℕ) (content : List ℕ) (
 abbrev pub CommitsAll : (sum own : List ℕ → ℕ) → ℕ → List ℕ → Disk → Type 0
 CommitsAll sum own P content d = Commits sum own P content (length (records own content)) d
 
--- the content's first n records would be committed, were the started sync of this name complete
+-- the content's first n records would be committed if the started sync of this name were complete
 pub record WouldCommit (sum own : List ℕ → ℕ) (P : ℕ) (content : List ℕ) (n name : ℕ) (d : Disk)
     : Type 0 where
   pub floor : ℕ
@@ -114,16 +115,16 @@ pub record WouldCommit (sum own : List ℕ → ℕ) (P : ℕ) (content : List �
   pub kept : WouldKeep sum P content name floor d
   pub there : n ≤ length (records own (take floor content))
 
--- chance aside, the records of whatever a crash leaves are the first of these; and an image in
--- which no checksum collides is one without chance
+-- if no checksum collides, the records of whatever a crash leaves are a prefix of these: so it is
+-- for each chance-free image, and an image in which no checksum collides is chance-free
 pub record OnlyRecords (sum own : List ℕ → ℕ) (P : ℕ) (all : List (List ℕ)) (d : Disk)
     : Type 0 where
   pub only : (image : List ℕ) → IsImage d image → IsChanceFree sum P d image
       → IsPrefix (records own (text sum P image)) all
   pub vouched : IsVouched sum P d
 
--- what starting a sync answers for: the content's first n records are committed already, or once
--- the sync has completed
+-- what the answer of a start of a sync stands for: the content's first n records are committed
+-- already, or are once the sync of this name has completed
 abbrev pub StartedCommits : (sum own : List ℕ → ℕ) → ℕ → List ℕ → ℕ → StartedSync → Disk → Type 0
 StartedCommits sum own P content n Done d = Commits sum own P content n d
 StartedCommits sum own P content n (Named name) d = WouldCommit sum own P content n name d
@@ -135,8 +136,8 @@ PendingCommits sum own P content n Dirty d = ⊥
 PendingCommits sum own P content n (Pending name) d = WouldCommit sum own P content n name d
 
 -- a commit of a journal's first n records was started: they are committed already, or are once the
--- sync that the journal waits for completed. The word for it in contracts: a caller hands it from
--- call to call, and has no need to see into it
+-- sync that the journal waits for has completed. Contracts have this word: a caller hands it from
+-- call to call, and has no need to see into it.
 unfoldable pub IsStarted : (sum own : List ℕ → ℕ) → WriterState → (n : ℕ) → Life → Type 0
 IsStarted sum own w n life =
     let held = content w life.present.readable in
@@ -154,12 +155,13 @@ KeepsCommitted sum own P old new =
     (content : List ℕ) (n : ℕ) → Commits sum own P content n old.present
     → Through (Commits sum own P content n) old new
 
--- chance aside, a crash at any moment since leaves only the first of these records
+-- at each moment since a call began a crash, if no checksum collides, leaves a prefix of these
+-- records
 abbrev pub LeavesRecords : (sum own : List ℕ → ℕ) → ℕ → List (List ℕ) → Life → Life → Type 0
 LeavesRecords sum own P all old new = Through (OnlyRecords sum own P all) old new
 
--- chance aside, a crash at any moment since leaves only the first of the records that a journal had
--- as the call began
+-- at each moment since a call began a crash, if no checksum collides, leaves a prefix of the
+-- records that the journal had as the call began
 abbrev pub LeavesItsRecords : (sum own : List ℕ → ℕ) → WriterState → Life → Life → Type 0
 LeavesItsRecords sum own w old new =
     LeavesRecords sum own w.page_size (records_in own w old) old new
@@ -180,6 +182,10 @@ pub record IsAppended (sum own : List ℕ → ℕ) (w : WriterState) (bytes : Li
       → Commits sum own now.page_size (content now new.present.readable) n d
   pub starts : StartsStay sum own w now old new
 
+-- an append of a record, by its answer: at Ok it stands at the offset that is answered, after the
+-- records that there were. `OffsetOverflow` comes before anything is asked for, if the physical
+-- size would pass the greatest offset; any other error has a cause in this call or in the sync that
+-- was pending.
 abbrev pub AppendRecordGoes : (sum own : List ℕ → ℕ) → WriterState → List ℕ → CacheState → Life
     → Life → Result (WriterState × ℕ) Error → Type 0
 AppendRecordGoes sum own w bytes after old new (Ok r) =
@@ -189,7 +195,7 @@ AppendRecordGoes sum own w bytes after old new (Err OffsetOverflow) =
     × (2 ^ 64 ≤ physical_blob_size w.page_size w.full_pages (length w.tip + (length bytes + 7)))
 AppendRecordGoes sum own w bytes after old new (Err e) = CallCause w.sync old new e
 
--- all records were committed
+-- a commit was made: all records are committed, and all that is readable of the blob is durable
 pub record IsCommitted (sum own : List ℕ → ℕ) (w : WriterState) (after : CacheState)
     (old new : Life) (now : WriterState) : Type 0 where
   pub journal : IsJournal sum now after new
@@ -200,6 +206,8 @@ pub record IsCommitted (sum own : List ℕ → ℕ) (w : WriterState) (after : C
   pub durable : IsDurable new.present
   pub starts : StartsStay sum own w now old new
 
+-- a commit, by its answer: at Ok all records are committed; an error has a cause in this call or in
+-- the sync that was pending
 abbrev pub CommitGoes : (sum own : List ℕ → ℕ) → WriterState → CacheState → Life → Life
     → Result WriterState Error → Type 0
 CommitGoes sum own w after old new (Ok now) = IsCommitted sum own w after old new now
@@ -223,6 +231,8 @@ pub record HasStartedCommit (sum own : List ℕ → ℕ) (w : WriterState) (afte
   -- if the sync that the journal waits for has failed by now, it failed in this call or before
   pub waits : PendingSyncFailed now.sync new.present → CallCause w.sync old new SyncFailed
 
+-- the start of a commit, by its answer: at Ok one of all records was started; an error has a cause
+-- in this call or in the sync that was pending
 abbrev pub StartCommitGoes : (sum own : List ℕ → ℕ) → WriterState → CacheState → Life → Life
     → Result (WriterState × StartedSync) Error → Type 0
 StartCommitGoes sum own w after old new (Ok r) = HasStartedCommit sum own w after old new r.0 r.1
@@ -239,6 +249,8 @@ pub record HasWaitedForCommit (sum own : List ℕ → ℕ) (w : WriterState) (ol
   -- where nothing was written since that sync was started, all that is readable is durable
   pub durable : now.sync ≡ Clean → IsDurable new.present
 
+-- a wait for the commit that was started last, by its answer: at Ok each commit that was started is
+-- done; an error has a cause in this call or in the sync that was pending
 abbrev pub WaitForCommitGoes : (sum own : List ℕ → ℕ) → WriterState → Life → Life
     → Result WriterState Error → Type 0
 WaitForCommitGoes sum own w old new (Ok now) = HasWaitedForCommit sum own w old new now
@@ -251,7 +263,8 @@ RecordReadRefused old new ReadFailed = HasFailed ReadFailed old.present new.pres
 RecordReadRefused old new OutOfMemory = NoneFailed old.present new.present
 RecordReadRefused old new _ = ⊥
 
--- a read of bytes within a content; where it answers them no device call failed
+-- a read of bytes within a content, by its answer: the bytes, and then no device call failed; or an
+-- error as `RecordReadRefused` has it
 abbrev pub ReadsContent : List ℕ → (offset len : ℕ) → Life → Life → Result (List ℕ) Error → Type 0
 ReadsContent content offset len old new (Ok bytes) =
     (bytes ≡ take len (drop offset content)) × NoneFailed old.present new.present
@@ -265,7 +278,8 @@ FillsFromContent content offset before after old new (Ok _) =
     ReadsContent content offset (length before) old new (Ok after)
 FillsFromContent content offset before after old new (Err e) = RecordReadRefused old new e
 
--- such a read, whatever it answers: the buffer keeps its length
+-- a read of bytes within a content into a buffer, whatever it answers: the buffer keeps its length,
+-- and holds what `FillsFromContent` says
 pub record ReadContentGoes (content : List ℕ) (offset : ℕ) (before after : List ℕ)
     (old new : Life) (result : Result (Unit {0}) Error) : Type 0 where
   pub answers : FillsFromContent content offset before after old new result
@@ -294,9 +308,10 @@ pub record IsFound (own : List ℕ → ℕ) (content : List ℕ) (offset : ℕ) 
   pub after : end ≡ offset + min (frame_len (drop offset content)) (length content - offset)
   pub rest : records own (drop offset content) ≡ listed bytes ++ records own (drop end content)
 
--- a read of the frame at an offset: none begins at the end or after it. The device is asked for the
--- frame's length before memory is asked for; so where memory is refused, reads may have been made.
--- Unless the answer is ReadFailed, no read failed
+-- a read of the frame at an offset, by its answer: its record, if it is one, and the offset after
+-- it. At the end of the content or after it none begins. The device is asked for the frame's length
+-- before memory is asked for, so reads may have been made when memory is refused. Unless the answer
+-- is `ReadFailed`, no read failed.
 abbrev pub ReadRecordGoes : (own : List ℕ → ℕ) → List ℕ → ℕ → Life → Life
     → Result (Option Found) Error → Type 0
 ReadRecordGoes own content offset old new (Ok None) =
@@ -342,8 +357,8 @@ pub record JournalHasRecovered (sum own : List ℕ → ℕ) (cache after : Cache
   -- no device call failed
   pub served : NoneRefused old.present new.present
 
--- a recovery of a journal: at an error the recovery of the blob was refused, or it answered Ok and
--- the trim of the content was refused
+-- a recovery of a journal, by its answer: `JournalHasRecovered`; or the recovery of the blob was
+-- refused; or that answered Ok, and the trim of the content to its whole frames was refused
 abbrev pub RecoversJournal : (sum own : List ℕ → ℕ) → (cache after : CacheState) → ℕ → Life
     → Life → Result (WriterState × Vec (List ℕ) Global) Error → Type 0
 RecoversJournal sum own cache after capacity old new (Ok r) =
@@ -358,14 +373,14 @@ abbrev pub StaysCommitted : (sum own : List ℕ → ℕ) → ℕ → Disk → Di
 StaysCommitted sum own P d e =
     (content : List ℕ) (n : ℕ) → Commits sum own P content n d → Commits sum own P content n e
 
--- where all was durable as a recovery began, all records of the text are committed at each moment
+-- if all was durable as a recovery began, all records of the text are committed at each moment
 -- since
 abbrev pub KeepsAllRecords : (sum own : List ℕ → ℕ) → ℕ → Life → Life → Type 0
 KeepsAllRecords sum own P old new =
     IsDurable old.present → Through (CommitsAll sum own P (text sum P old.present.readable)) old new
 
--- if all was durable as a recovery began, each chance-free image at each moment since has only the
--- first of the records of the text
+-- if all was durable as a recovery began, each chance-free image at each moment since has as its
+-- records a prefix of those of the text
 abbrev pub LeavesAllRecords : (sum own : List ℕ → ℕ) → ℕ → Life → Life → Type 0
 LeavesAllRecords sum own P old new =
     IsDurable old.present
@@ -377,8 +392,8 @@ BringsRecordsBack sum own P d back =
     (content : List ℕ) (n : ℕ) → Commits sum own P content n d
     → (n ≤ length back) × (take n back ≡ take n (records own content))
 
--- absent a checksum collision in what the crash left, the records that come back are the first of
--- those that were appended
+-- if no checksum collides in what the crash left, the records that come back are a prefix of those
+-- that were appended
 abbrev pub BringsOnlyRecords : (sum own : List ℕ → ℕ) → ℕ → Disk → List ℕ → List (List ℕ) → Type 0
 BringsOnlyRecords sum own P d image back =
     IsDistinct sum P d image

@@ -25,7 +25,7 @@ pub record ReaderState : Type 0 where
 abbrev pub read_over : ReaderState → Life → List ℕ
 read_over r life = logical_bytes r.tail life.present.readable
 
--- the records that it is still to answer, in order
+-- the records that a reader is still to answer, in order
 abbrev pub left : (own : List ℕ → ℕ) → ReaderState → Life → List (List ℕ)
 left own r life = records own (drop r.offset (read_over r life))
 
@@ -35,8 +35,8 @@ pub record IsOpenSnapshot (sum : List ℕ → ℕ) (t : Tail) (cache : CacheStat
   pub stands : SnapshotReads sum t (logical_bytes t life.present.readable) cache life.present
   pub size : tail_size t ≡ length (logical_bytes t life.present.readable)
 
--- a reader between two calls, as contracts name it: a caller hands it from call to call, and has no
--- need to see into it
+-- a reader between two calls, as `IsOpenSnapshot` has it. Contracts have this word: a caller hands
+-- it from call to call, and has no need to see into it.
 unfoldable pub IsReader : (List ℕ → ℕ) → ReaderState → CacheState → Life → Type 0
 IsReader sum r cache life = IsOpenSnapshot sum r.tail cache life
 
@@ -46,8 +46,9 @@ pub record StaysReader (sum : List ℕ → ℕ) (r : ReaderState) (after : Cache
   pub reader : IsReader sum r after new
   pub holds : read_over r new ≡ read_over r old
 
--- a call of a journal, whatever it answers: each reader of its blob stays one, if the reader's full
--- pages are among the journal's, as they are for each reader that the journal made
+-- a call of a journal, whatever it answers: each reader of its blob stays one, with the same
+-- content, if its full pages are among the journal's, as they are for each reader that the journal
+-- made
 abbrev pub ReadersStay : (List ℕ → ℕ) → WriterState → CacheState → CacheState → Life → Life → Type 0
 ReadersStay sum w cache after old new =
     (r : ReaderState) → r.tail.full_pages ≤ w.full_pages → IsReader sum r cache old
@@ -70,7 +71,7 @@ EachReaderStays cache after =
     (sum : List ℕ → ℕ) (r : ReaderState) (life : Life)
     → IsReader sum r cache life → IsReader sum r after life
 
--- no reader that has this cache is of a blob with this id
+-- no reader that has this cache is of a blob with this id, as a recovery's new id is
 abbrev pub IsNewToReaders : ℕ → CacheState → Type 0
 IsNewToReaders id cache =
     (sum : List ℕ → ℕ) (r : ReaderState) (life : Life) → IsReader sum r cache life → r.tail.id ≢ id
@@ -108,12 +109,15 @@ pub record IsNext (own : List ℕ → ℕ) (content : List ℕ) (offset : ℕ) (
   pub goes : records own (drop offset content) ≡ listed bytes ++ records own (drop end content)
   pub ends : bytes ≡ None → records own (drop end content) ≡ []
 
+-- the next record from an offset on is found, by the answer: the record, if there is one, and the
+-- offset after it, and then no device call failed; or an error as `RecordReadRefused` has it
 abbrev pub FindsNext : (own : List ℕ → ℕ) → List ℕ → ℕ → Life → Life → Result Found Error → Type 0
 FindsNext own content offset old new (Ok f) =
     IsNext own content offset f.bytes f.end × NoneFailed old.present new.present
 FindsNext own content offset old new (Err e) = RecordReadRefused old new e
 
--- a reader moved on after its next record, where there is one; no device call failed
+-- a read of the next record at Ok: the reader moved on behind it, or behind the last frame if no
+-- record is left; no device call failed
 pub record MovesOn (own : List ℕ → ℕ) (r now : ReaderState) (old new : Life)
     (bytes : Option (List ℕ)) : Type 0 where
   pub same : now.tail ≡ r.tail
@@ -122,8 +126,8 @@ pub record MovesOn (own : List ℕ → ℕ) (r now : ReaderState) (old new : Lif
   pub ends : bytes ≡ None → left own now new ≡ []
   pub none_failed : NoneFailed old.present new.present
 
--- a read of the next record; one that is refused leaves the reader where it was. Unless the answer
--- is ReadFailed, no read of the device failed
+-- a read of the next record, by its answer; a reader that is refused stays where it was. Unless the
+-- answer is `ReadFailed`, no read of the device failed.
 abbrev pub NextRecordGoes : (own : List ℕ → ℕ) → (r now : ReaderState) → Life → Life
     → Result (Option (List ℕ)) Error → Type 0
 NextRecordGoes own r now old new (Ok bytes) = MovesOn own r now old new bytes
@@ -140,8 +144,8 @@ abbrev pub JournalsStay : (List ℕ → ℕ) → CacheState → CacheState → L
 JournalsStay sum cache after old new =
     (w : WriterState) → IsJournal sum w cache old → StaysJournal sum w after old new
 
--- for each journal of the cache: chance aside, a crash at any moment of the call leaves only the
--- first of its records
+-- for each journal of the cache, at each moment of the call: a crash, if no checksum collides,
+-- leaves a prefix of its records
 abbrev pub LeavesTheirRecords : (sum own : List ℕ → ℕ) → CacheState → Life → Life → Type 0
 LeavesTheirRecords sum own cache old new =
     (w : WriterState) → IsJournal sum w cache old → LeavesItsRecords sum own w old new
@@ -163,6 +167,9 @@ pub record HasReader (sum own : List ℕ → ℕ) (w : WriterState) (after : Cac
   pub all : left own r new ≡ records own (content w old.present.readable)
   pub starts : StartsStay sum own w now old new
 
+-- the making of a reader, by its answer: at Ok the journal goes on with the same content, and the
+-- reader is to answer all its records; an error has a cause in this call or in the sync that was
+-- pending
 abbrev pub ReaderGoes : (sum own : List ℕ → ℕ) → WriterState → CacheState → Life → Life
     → Result (WriterState × ReaderState) Error → Type 0
 ReaderGoes sum own w after old new (Ok r) = HasReader sum own w after old new r.0 r.1

@@ -7,11 +7,11 @@ use Rattle.page.specs.declared.slot.Slot.TheVariants.{First, Second}
 use Rattle.page.specs.declared.slot.ActiveChecksum.{ActiveChecksum}
 use Rattle.page.specs.declared.checksum.Checksum.{Checksum}
 
--- the bytes of a footer: the first slot and the second
+-- the twelve bytes of a footer: the first slot and the second
 abbrev pub footer_bytes : Checksum → List ℕ
 footer_bytes c = slot_bytes c.len1 c.crc1 ++ slot_bytes c.len2 c.crc2
 
--- the footer that these bytes are
+-- the footer that these twelve bytes are
 abbrev pub footer_of : List ℕ → Checksum
 footer_of bytes = record {
   len1 = slot_len (take 6 bytes);
@@ -20,15 +20,16 @@ footer_of bytes = record {
   crc2 = slot_crc (drop 6 bytes);
 }
 
--- what one slot holds: a length and a checksum
+-- what one slot of a footer holds: a length and a checksum
 abbrev pub said : Checksum → Slot → ℕ × ℕ
 said c First = (c.len1, c.crc1)
 said c Second = (c.len2, c.crc2)
 
--- the slot of the greater length, the first on equal lengths
+-- the slot of the greater length, the first if the lengths are equal
 abbrev pub longer_slot : Checksum → Slot
 longer_slot c = if nat_lt c.len1 c.len2 then Second else First
 
+-- this slot of a footer with its length and its checksum
 abbrev pub active_of : Checksum → Slot → ActiveChecksum
 active_of c s = record { slot = s; len = (said c s).0; crc = (said c s).1 }
 

@@ -5,7 +5,7 @@ use Rattle.std.specs.Int.{next_multiple_of}
 use Rattle.disk.specs.declared.error.Error.{Error}
 use Rattle.disk.specs.declared.error.Error.TheVariants.{OffsetOverflow, BlobInsufficientLength}
 
--- a capacity in whole pages, and at least two of them
+-- a capacity rounded up to whole pages, and at least two pages
 abbrev pub adjusted : ℕ → ℕ → ℕ
 adjusted capacity page_size = max (next_multiple_of capacity page_size) (2 * page_size)
 
@@ -34,7 +34,8 @@ AreInOrder ranges = AreInOrderFrom 0 ranges
 abbrev pub EndWithin : ℕ → List (ℕ × ℕ) → Type 0
 EndWithin size ranges = All (λ range. range.0 + range.1 ≤ size) ranges
 
--- a range can be read, or its end passes the greatest offset, or its end passes the size alone
+-- whether a range can be read of so many bytes, by the answer: it can; or its end passes the
+-- greatest offset; or its end passes the size alone
 abbrev pub RangeGoes : ℕ → ℕ × ℕ → Result (Unit {0}) Error → Type 0
 RangeGoes size range (Ok _) = range.0 + range.1 ≤ size
 RangeGoes size range (Err OffsetOverflow) = 2 ^ 64 ≤ range.0 + range.1
@@ -42,7 +43,8 @@ RangeGoes size range (Err BlobInsufficientLength) =
     (range.0 + range.1 < 2 ^ 64) × (size < range.0 + range.1)
 RangeGoes size range (Err _) = ⊥
 
--- all ranges can be read, or the error is that of the first that can't
+-- whether some ranges can be read, by the answer: all can; or the error is that of the first that
+-- can't
 abbrev pub RangesGo : ℕ → List (ℕ × ℕ) → Result (Unit {0}) Error → Type 0
 RangesGo size ranges (Ok _) = EndWithin size ranges
 RangesGo size ranges (Err error) =

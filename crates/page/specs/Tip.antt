@@ -8,15 +8,15 @@ use Rattle.std.specs.List.{concat}
 use Rattle.disk.specs.declared.error.Error.{Error}
 use Rattle.disk.specs.declared.error.Error.TheVariants.{OffsetOverflow, OutOfMemory}
 
--- the bytes after a logical offset, in pages of so many bytes; the capacity is how many bytes the
--- buffer is to hold
+-- the bytes from a logical offset on that a buffer holds, with the page size in bytes, and the
+-- capacity: how many bytes the buffer is to hold. It is all that contracts see of a `Buffer`.
 pub record Tip : Type 0 where
   pub page_size : ℕ
   pub capacity : ℕ
   pub offset : ℕ
   pub bytes : List ℕ
 
--- the logical size of the blob
+-- the logical size of the blob: the offset of the buffered bytes and how many they are
 abbrev pub tip_size : Tip → ℕ
 tip_size t = t.offset + length t.bytes
 
@@ -36,11 +36,13 @@ drained t = record t { offset = t.offset + full_len t; bytes = drop (full_len t)
 abbrev pub AreWholePages : ℕ → List (List ℕ) → Type 0
 AreWholePages P chunks = All (λ chunk. length chunk % P ≡ 0) chunks
 
--- each of these is a page
+-- each of these byte strings is a page: it has P bytes
 abbrev pub ArePages : ℕ → List (List ℕ) → Type 0
 ArePages P pages = All (λ page. length page ≡ P) pages
 
--- an append, which answers whether more bytes are now buffered than the capacity
+-- an append to a buffer, by its answer. At Ok the bytes stand after those that it had, and it
+-- answers whether the capacity is passed. `OffsetOverflow` comes exactly if the new size passes 2 ^
+-- 64 - 1, and the only other error is `OutOfMemory`. After an error the tip is as it was.
 abbrev pub TipAppendGoes : Tip → List ℕ → Tip → Result Bool Error → Type 0
 TipAppendGoes old bytes new (Ok passed) =
     (tip_size old + length bytes < 2 ^ 64) × (new ≡ joined old bytes)
@@ -50,8 +52,9 @@ TipAppendGoes old bytes new (Err OffsetOverflow) =
 TipAppendGoes old bytes new (Err OutOfMemory) = (tip_size old + length bytes < 2 ^ 64) × (new ≡ old)
 TipAppendGoes old bytes new (Err _) = ⊥
 
--- an append within the capacity: it answers the offset of the first byte, or that the bytes don't
--- fit
+-- an append within the capacity, by its answer: the bytes stand after those that it had, and the
+-- answer is the offset of the first; or `None`, exactly if the capacity would be passed, and the
+-- tip is as it was. Errors are those of an append, and change nothing.
 abbrev pub TipTryAppendGoes : Tip → List ℕ → Tip → Result (Option ℕ) Error → Type 0
 TipTryAppendGoes old bytes new (Ok (Some offset)) =
     (tip_size old + length bytes < 2 ^ 64) × (length old.bytes + length bytes ≤ old.capacity)
@@ -66,7 +69,9 @@ TipTryAppendGoes old bytes new (Err OutOfMemory) =
     × (new ≡ old)
 TipTryAppendGoes old bytes new (Err _) = ⊥
 
--- the whole pages are handed out, in order
+-- the whole pages are handed out, in order and in chunks of whole pages, and the tip keeps the
+-- bytes after them. The only error is `OutOfMemory`, which comes only if there is a whole page, and
+-- changes nothing.
 abbrev pub TipDrainGoes : Tip → Tip → Result (List (List ℕ)) Error → Type 0
 TipDrainGoes old new (Ok chunks) =
     (concat chunks ≡ take (full_len old) old.bytes) × AreWholePages old.page_size chunks
@@ -74,7 +79,9 @@ TipDrainGoes old new (Ok chunks) =
 TipDrainGoes old new (Err OutOfMemory) = (new ≡ old) × (0 < full_len old)
 TipDrainGoes old new (Err _) = ⊥
 
--- the tip's bytes and offset are replaced by others
+-- the tip's offset and bytes are replaced by these. `OffsetOverflow` comes exactly if the new size
+-- passes 2 ^ 64 - 1, and the only other error is `OutOfMemory`. After an error the tip is as it
+-- was.
 abbrev pub TipReplaceGoes : Tip → ℕ → List ℕ → Tip → Result (Unit {0}) Error → Type 0
 TipReplaceGoes old offset bytes new (Ok _) = new ≡ record old { offset = offset; bytes = bytes }
 TipReplaceGoes old offset bytes new (Err OffsetOverflow) =
@@ -83,7 +90,8 @@ TipReplaceGoes old offset bytes new (Err OutOfMemory) =
     (offset + length bytes < 2 ^ 64) × (new ≡ old)
 TipReplaceGoes old offset bytes new (Err _) = ⊥
 
--- a buffer of this tip is made
+-- a buffer of this tip is made, by the answer: it has these bytes at this offset; or an error came,
+-- as of an append
 abbrev pub TipStartGoes : Tip → Result Tip Error → Type 0
 TipStartGoes tip (Ok new) = (tip_size tip < 2 ^ 64) × (new ≡ tip)
 TipStartGoes tip (Err OffsetOverflow) = 2 ^ 64 ≤ tip_size tip

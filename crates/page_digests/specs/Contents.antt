@@ -24,7 +24,7 @@ pub record PagedState : Type 0 where
 
 -- ---- opening
 
--- a content is opened: the top was read from behind the list, and nothing else
+-- a content is opened: its top was read from behind the list, and nothing else
 pub record IsOpenedContent (d : List ℕ → List ℕ) (P : ℕ) (kept : Seal)
     (before list_before : List SourceRead) (c : PagedState) : Type 0 where
   pub seal : c.seal ≡ kept
@@ -35,7 +35,7 @@ pub record IsOpenedContent (d : List ℕ → List ℕ) (P : ℕ) (kept : Seal)
   pub top : (top : List ℕ) × (c.list_reads ≡ list_before ++ gave (list_len P kept.len) top ∷ [])
       × IsVerified d P kept (top_of d P) top
 
--- a content of which nothing is held; its files were read so far
+-- a content of which nothing is held, with the reads of its files so far
 abbrev pub unread : (P : ℕ) → Seal → (reads list_reads : List SourceRead) → PagedState
 unread P seal reads list_reads = record {
   seal = seal;
@@ -48,15 +48,15 @@ unread P seal reads list_reads = record {
 
 -- ---- a page
 
--- the same content, of which perhaps more was read
+-- the same content, of whose files perhaps more was read
 pub record IsSameContent (old new : PagedState) : Type 0 where
   pub seal : new.seal ≡ old.seal
   pub page_size : new.page_size ≡ old.page_size
   pub reads : (more : List SourceRead) × (new.reads ≡ old.reads ++ more)
   pub list_reads : (more : List SourceRead) × (new.list_reads ≡ old.list_reads ++ more)
 
--- page i can't be used: it is wrong or its read was refused, or so it is with a page of the list
--- that has bytes of its digest; or memory was refused
+-- page i can't be used: it is wrong or its read was refused, or a page of the list that has bytes
+-- of its digest is wrong or its read was refused, or memory was refused
 abbrev pub PageFails : (List ℕ → List ℕ) → (i : ℕ) → (old new : PagedState) → Error → Type 0
 PageFails d i old new Damaged =
     PageIsWrong d old.page_size old.seal i old.reads new.reads
@@ -66,7 +66,7 @@ PageFails d i old new (System e) =
     ⊎ DigestFails d old.page_size old.seal i old.list_reads new.list_reads (System e)
 PageFails d i old new OutOfMemory = Unit {0}
 
--- whether the file holds page i as it was, by the answer. `Damaged` is of the list alone
+-- whether the file holds page i as it was, by the answer. `Damaged` is answered only for the list.
 abbrev pub SoundAnswers : (List ℕ → List ℕ) → (i : ℕ) → (old new : PagedState)
     → Result Bool Error → Type 0
 SoundAnswers d i old new (Ok true) = (new.cached ≡ Some i)
@@ -98,8 +98,8 @@ pub record IsInCached (offset len : ℕ) (s : PagedState) : Type 0 where
   pub begins : page * s.page_size ≤ offset
   pub ends : offset + len ≤ page * s.page_size + s.page_size
 
--- these bytes are those from an offset on that lie in the page that is held, all of them; none if
--- the offset isn't in it, or no page is held
+-- these bytes are all those from an offset on that lie in the page that is held; none if the offset
+-- isn't in it, or no page is held
 pub record HoldsFrom (d : List ℕ → List ℕ) (offset : ℕ) (s : PagedState) (bytes : List ℕ)
     : Type 0 where
   pub verified : IsVerified d s.page_size s.seal (range_at offset (length bytes)) bytes
@@ -108,9 +108,9 @@ pub record HoldsFrom (d : List ℕ → List ℕ) (offset : ℕ) (s : PagedState)
       → offset < min (page * s.page_size + s.page_size) s.seal.len
       → offset + length bytes ≡ min (page * s.page_size + s.page_size) s.seal.len
 
--- what a read of a range asks for, whatever it answers: each page that the range touches once at
--- most, and each page of the list that has bytes of these pages' digests once at most. If all of
--- the range lies in the page that is held, nothing
+-- what a read of a range asks for, whatever it answers: once at most each page that the range
+-- touches, and once at most each page of the list that has bytes of these pages' digests; nothing
+-- if all of the range lies in the page that is held
 pub record RangeAsks (offset len : ℕ) (old new : PagedState) : Type 0 where
   pub calls : length new.reads ≤ length old.reads + pages_touched old.page_size offset len
   pub list_calls : let P = old.page_size in let pages = pages_touched P offset len in
@@ -131,13 +131,16 @@ RangeFails d offset len old new (System e) =
     (i : ℕ) × IsTouched old.page_size offset len i × PageFails d i old new (System e)
 RangeFails d offset len old new OutOfMemory = Unit {0}
 
--- a range is read, by the answer
+-- a range is read, by the answer: at Ok the bytes are those of each content with this seal, unless
+-- a second preimage is at hand, and the last page is held; an error is one of `RangeFails`
 abbrev pub ReadAnswers : (List ℕ → List ℕ) → (offset len : ℕ) → (old new : PagedState)
     → Result (Vec ℕ Global) Error → Type 0
 ReadAnswers d offset len old new (Ok bytes) = HoldsLast offset len new
     × IsVerified d old.page_size old.seal (range_at offset len) bytes.items
 ReadAnswers d offset len old new (Err e) = RangeFails d offset len old new e
 
+-- a read of a range of a content: the content is the same, no more pages were asked for than
+-- `RangeAsks` allows, and the answer is as `ReadAnswers` has it
 pub record PagedReadGoes (d : List ℕ → List ℕ) (offset len : ℕ) (old new : PagedState)
     (result : Result (Vec ℕ Global) Error) : Type 0 where
   pub same : IsSameContent old new
@@ -159,6 +162,8 @@ ReadIntoAnswers d offset len old new before after (Ok _) = HoldsLast offset len 
 ReadIntoAnswers d offset len old new before after (Err e) =
     (after ≡ before) × RangeFails d offset len old new e
 
+-- a read of a range of a content into a buffer, behind what it holds: the content is the same, no
+-- more pages were asked for than `RangeAsks` allows, and the answer is as `ReadIntoAnswers` has it
 pub record PagedReadIntoGoes (d : List ℕ → List ℕ) (offset len : ℕ) (old new : PagedState)
     (before after : List ℕ) (result : Result (Unit {0}) Error) : Type 0 where
   pub same : IsSameContent old new

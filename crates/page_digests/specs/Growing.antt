@@ -14,21 +14,22 @@ pub record IsDigested (d : List ℕ → List ℕ) (P : ℕ) (content : List ℕ)
   pub list : s.list ≡ digests d P content s.pages
   pub within : s.pages * P ≤ length content
 
--- whatever content is digested so far, and whose next page this is, a whole one: it is digested up
--- to that page then
+-- whatever content is digested so far, if this whole page is its next one: it is digested up to the
+-- end of that page then
 abbrev pub DigestsPage : (List ℕ → List ℕ) → List ℕ → DigestingState → DigestingState → Type 0
 DigestsPage d page s t = (P : ℕ) (content : List ℕ) → IsDigested d P content s
     → page ≡ content_page P s.pages content → s.pages * P + P ≤ length content
     → IsDigested d P content t
 
--- a page is taken, by the answer; after an error nothing was taken
+-- a page is taken, by the answer: each content of which it is the next page is digested up to it;
+-- or an error came, and nothing was taken
 abbrev pub TakesPage : {E : Type 0} → (List ℕ → List ℕ) → List ℕ → DigestingState
     → DigestingState → Result (Unit {0}) E → Type 0
 TakesPage d page s t (Ok _) = (t.pages ≡ s.pages + 1) × DigestsPage d page s t
 TakesPage d page s t (Err _) = t ≡ s
 
--- whatever content is digested so far but for this rest, which is shorter than a page: this is its
--- list
+-- whatever content is digested so far except for this rest, which is shorter than a page: this is
+-- its list
 abbrev pub FinishesList : (List ℕ → List ℕ) → (rest : List ℕ) → DigestingState → (list : List ℕ)
     → Type 0
 FinishesList d rest s list = (P : ℕ) (content : List ℕ) → IsDigested d P content s
@@ -48,8 +49,8 @@ pub record HoldsPayloads (P full : ℕ) (physical content : List ℕ) : Type 0 w
   pub long : full * P ≤ length content
   pub pages : (n : ℕ) → n < full → content_page P n content ≡ payload_at P n physical
 
--- whatever content begins with these payloads and is digested so far: it is still, and perhaps
--- further, but not past them
+-- whatever content begins with these payloads and is digested so far: it still is, and perhaps
+-- further, but not past the last of them
 pub record DigestsPayloads (d : List ℕ → List ℕ) (P full : ℕ) (physical : List ℕ)
     (s t : DigestingState) : Type 0 where
   pub further : s.pages ≤ t.pages
@@ -57,7 +58,8 @@ pub record DigestsPayloads (d : List ℕ → List ℕ) (P full : ℕ) (physical 
   pub digests : (content : List ℕ) → HoldsPayloads P full physical content
       → IsDigested d P content s → IsDigested d P content t
 
--- and by the answer all of them are
+-- a digesting goes on over these payloads, by the answer: at Ok each content that begins with them
+-- is digested up to the end of the last; after an error perhaps less far
 abbrev pub CatchesUp : {E : Type 0} → (List ℕ → List ℕ) → (P full : ℕ) → List ℕ
     → DigestingState → DigestingState → Result (Unit {0}) E → Type 0
 CatchesUp d P full physical s t (Ok _) =

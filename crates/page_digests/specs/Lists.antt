@@ -64,6 +64,8 @@ DigestAnswers d i old new (Ok digest) =
 DigestAnswers d i old new (Err e) =
     DigestFails d old.page_size old.seal i old.reads new.reads e
 
+-- the digest of page i is read: the list is the same, it was read on over that digest alone, and
+-- the answer is as `DigestAnswers` has it
 pub record DigestGoes (d : List ℕ → List ℕ) (i : ℕ) (old new : ListState)
     (result : Result (List ℕ) Error) : Type 0 where
   pub same : IsSameList old new

@@ -62,13 +62,13 @@ RootFails d offset len root old new (System e) = EndsWithRead old new (refused o
 RootFails d offset len root old new OutOfMemory = new ≡ old
 
 -- these bytes are the part `of` all bytes of this length whose pages have the digests of this top,
--- unless a second preimage of a page of those is at hand
+-- unless a second preimage of a page of those bytes is at hand
 abbrev pub IsKnown : (List ℕ → List ℕ) → (P len : ℕ) → (top : List ℕ)
     → (of : List ℕ → List ℕ) → List ℕ → Type 0
 IsKnown d P len top of bytes = (all : List ℕ) → length all ≡ len → list_of d P all ≡ top
     → (bytes ≡ of all) ⊎ HasPagePreimage d P all
 
--- the same bytes, of which perhaps more was read
+-- the same bytes in a file, of which perhaps more was read
 pub record IsSameBytes (old new : BytesState) : Type 0 where
   pub start : new.start ≡ old.start
   pub len : new.len ≡ old.len
@@ -101,6 +101,8 @@ abbrev pub BytesLoadAnswers : (List ℕ → List ℕ) → (j : ℕ) → (old new
 BytesLoadAnswers d j old new (Ok _) = new.cached ≡ Some j
 BytesLoadAnswers d j old new (Err e) = BytesPageFails d old j old.reads new.reads e
 
+-- page j of some bytes is fetched: the bytes in the file are the same, they were read once at most,
+-- the pages that are held are too, and the answer is as `BytesLoadAnswers` has it
 pub record FetchGoes (d : List ℕ → List ℕ) (j : ℕ) (old new : BytesState)
     (result : Result (Unit {0}) Error) : Type 0 where
   pub same : IsSameBytes old new
@@ -191,6 +193,9 @@ CopyAnswers d at done old new before after (Ok n) = (0 < n) × (done + n ≤ len
 CopyAnswers d at done old new before after (Err e) =
     BytesPageFails d old (at / old.page_size) old.reads new.reads e
 
+-- bytes from `at` on are copied into a buffer behind its first `done`: the bytes in the file are
+-- the same, they were read once at most, and not at all if the page was used last, and the answer
+-- is as `CopyAnswers` has it
 pub record CopyGoes (d : List ℕ → List ℕ) (at done : ℕ) (old new : BytesState)
     (before after : List ℕ) (result : Result ℕ Error) : Type 0 where
   pub same : IsSameBytes old new
@@ -210,8 +215,8 @@ pub record IsCopying (d : List ℕ → List ℕ) (at total : ℕ) (old new : Byt
       → IsReadOn old.page_size from count base (length old.reads) old.cached
       → IsReadOn old.page_size from (count + done) base (length new.reads) new.cached
 
--- a range is read, by the answer: after an error the buffer may hold anything, and a page that the
--- range touches can't be used, or memory was refused
+-- a range of some bytes is read, by the answer: at Ok the buffer holds it. After an error the
+-- buffer may hold anything, and a page that the range touches can't be used, or memory was refused.
 abbrev pub BytesAnswers : (List ℕ → List ℕ) → (at : ℕ) → (old new : BytesState)
     → (after : List ℕ) → Result (Unit {0}) Error → Type 0
 BytesAnswers d at old new after (Ok _) =
@@ -220,7 +225,8 @@ BytesAnswers d at old new after (Err e) = (j : ℕ)
     × IsTouched old.page_size at (length after) j
     × BytesPageFails d old j old.reads new.reads e
 
--- wherever these bytes were read in order up to `at`, they are read on over the next ones
+-- wherever these bytes were read in order up to `at`, each page once at most, they are read on so
+-- over the next ones
 abbrev pub ReadsBytesOn : {T E : Type 0} → (at len : ℕ) → (old new : BytesState) → Result T E
     → Type 0
 ReadsBytesOn at len old new result = (from count base : ℕ) → from + count ≡ at
@@ -228,6 +234,9 @@ ReadsBytesOn at len old new result = (from count base : ℕ) → from + count �
     → (length new.reads ≤ base + pages_touched old.page_size from (count + len))
     × OnOk result (IsReadOn old.page_size from (count + len) base (length new.reads) new.cached)
 
+-- a read of a range into a buffer: the bytes in the file are the same, the buffer has as many bytes
+-- as before, each page of the range was read once at most, even after reads in order before it, and
+-- the answer is as `BytesAnswers` has it
 pub record BytesGoes (d : List ℕ → List ℕ) (at : ℕ) (old new : BytesState)
     (before after : List ℕ) (result : Result (Unit {0}) Error) : Type 0 where
   pub same : IsSameBytes old new

@@ -4,15 +4,15 @@ use Rattle.std.specs.Prelude.{◌+◌, ◌-◌, ◌*◌, ◌++◌, ℕ, zero, su
 use Rattle.std.specs.Prelude.{slice_range}
 use Rattle.std.specs.Int.{div_ceil}
 
--- page i of some bytes, by pages of P bytes: the last one may be shorter
+-- page i of some bytes, by pages of P bytes; the last page may be shorter
 abbrev pub content_page : (P i : ℕ) → List ℕ → List ℕ
 content_page P i bytes = take P (drop (i * P) bytes)
 
--- so many of some bytes, from an offset on
+-- so many bytes of some bytes, from an offset on
 abbrev pub range_at : (offset len : ℕ) → List ℕ → List ℕ
 range_at offset len bytes = slice_range bytes offset (offset + len)
 
--- how many pages so many bytes have
+-- how many pages of P bytes so many bytes have; the last may be shorter
 abbrev pub pages_of_len : (P len : ℕ) → ℕ
 pages_of_len P len = div_ceil len P
 
@@ -33,7 +33,7 @@ list_of d P bytes = digests d P bytes (pages_of_len P (length bytes))
 abbrev pub list_len : (P len : ℕ) → ℕ
 list_len P len = pages_of_len P len * 32
 
--- digest i of a list
+-- digest i of a list: its 32 bytes from i times 32 on
 abbrev pub digest_at : (i : ℕ) → List ℕ → List ℕ
 digest_at i list = take 32 (drop (i * 32) list)
 

@@ -44,6 +44,8 @@ abbrev pub LoadAnswers : (List ℕ → List ℕ) → (i : ℕ) → (old new : Pa
 LoadAnswers d i old new (Ok _) = new.cached ≡ Some i
 LoadAnswers d i old new (Err e) = PageFails d i old new e
 
+-- page i of a content is loaded: the content is the same, only that page was asked for, and the
+-- answer is as `LoadAnswers` has it
 pub record LoadGoes (d : List ℕ → List ℕ) (i : ℕ) (old new : PagedState)
     (result : Result (Unit {0}) Error) : Type 0 where
   pub same : IsSameContent old new
@@ -63,6 +65,8 @@ PieceAnswers d at most old new before after (Ok n) = (0 < n) × (n ≤ most)
 PieceAnswers d at most old new before after (Err e) =
     (after ≡ before) × PageFails d (at / old.page_size) old new e
 
+-- a piece of a content from `at` on is appended to a buffer, of at most so many bytes: the content
+-- is the same, only its page was asked for, and the answer is as `PieceAnswers` has it
 pub record PieceGoes (d : List ℕ → List ℕ) (at most : ℕ) (old new : PagedState)
     (before after : List ℕ) (result : Result ℕ Error) : Type 0 where
   pub same : IsSameContent old new
@@ -96,6 +100,8 @@ RangeAnswers d offset len old new before after (Ok _) = HoldsLast offset len new
 RangeAnswers d offset len old new before after (Err e) =
     ((more : List ℕ) × (after ≡ before ++ more)) × RangeFails d offset len old new e
 
+-- a range of a content is appended to a buffer: the content is the same, no more was asked for than
+-- `RangeAsks` allows, and the answer is as `RangeAnswers` has it
 pub record RangeAppendGoes (d : List ℕ → List ℕ) (offset len : ℕ) (old new : PagedState)
     (before after : List ℕ) (result : Result (Unit {0}) Error) : Type 0 where
   pub same : IsSameContent old new

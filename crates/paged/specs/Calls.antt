@@ -91,7 +91,7 @@ sync_calls w = (if has_work w true then 1 else 0) + settle_calls w.sync
 abbrev pub start_calls : WriterState → ℕ
 start_calls w = if has_work w true then wait_calls w.sync + 2 else unstarted_calls w.sync
 
--- what is buffered is within the capacity
+-- what is buffered is within the capacity, which is so between any two calls
 abbrev pub HoldsWithin : WriterState → Type 0
 HoldsWithin w = length w.tip ≤ w.capacity
 
@@ -119,7 +119,8 @@ pub record Succeeds (sum : List ℕ → ℕ) (w : WriterState) (old : Life) (mor
   pub waits : PendingSyncFailed now.sync new.present → CallCause w.sync old new SyncFailed
   pub served : NoneRefused old.present new.present
 
--- a call fails: why, and what each of its moments keeps
+-- a call fails: the error has its cause, the log grows, and each of its moments keeps what
+-- `StaysThrough` has
 pub record Fails (sum : List ℕ → ℕ) (w : WriterState) (content : List ℕ) (old new : Life)
     (e : Error) : Type 0 where
   pub cause : CallCause w.sync old new e
@@ -163,7 +164,7 @@ pub record IsSettled (w : WriterState) : Type 0 where
   pub short : length w.tip < w.page_size
   pub flushed : kept_len w.flushed ≡ length w.tip
 
--- a sync: afterwards all of the content is written and durable
+-- a sync, by its answer: at `Ok` all of the content is written and durable
 abbrev pub Syncs : (List ℕ → ℕ) → WriterState → Life → Life → Result WriterState Error → Type 0
 Syncs sum w old new (Ok now) = Succeeds sum w old [] now new × IsSettled now
 Syncs sum w old new (Err e) = Fails sum w (content w old.present.readable) old new e
@@ -179,12 +180,13 @@ SettlesBy Clean old new answer = (answer ≡ Ok tt) × (new ≡ old)
 SettlesBy Dirty old new answer = SyncGoes old new answer
 SettlesBy (Pending name) old new answer = WaitGoes name old new answer
 
--- the writer once it waited for a pending sync
+-- the state of a writer once it has waited for a pending sync: clean then, and otherwise as it was
 abbrev pub waited_state : SyncState → SyncState
 waited_state Clean = Clean
 waited_state Dirty = Dirty
 waited_state (Pending name) = Clean
 
+-- the writer once it has waited for a pending sync
 abbrev pub waited_writer : WriterState → WriterState
 waited_writer w = record w { sync = waited_state w.sync }
 
@@ -214,7 +216,8 @@ Completes sum P (Pending name) old new =
     (content : List ℕ) (cover : ℕ) → WouldKeep sum P content name cover old.present
     → AllKeep sum P content cover new.present
 
--- what starting a sync answers where it asks nothing of the device
+-- what starting a sync answers if it asks nothing of the device: the pending sync, or that all is
+-- durable
 abbrev pub started_already : SyncState → StartedSync
 started_already Clean = Done
 started_already Dirty = Done
@@ -235,8 +238,8 @@ abbrev pub Covers : (List ℕ → ℕ) → (P : ℕ) → StartedSync → Life �
 Covers sum P Done old new = Unit {0}
 Covers sum P (Named name) old new = Completes sum P (Pending name) old new
 
--- what a started sync promises: all of this content is durable already, or is once the sync
--- completed
+-- what the answer of a start of a sync promises: all of this content is durable already, or is once
+-- the sync has completed
 abbrev pub StartedSyncKeeps : (List ℕ → ℕ) → (P : ℕ) → List ℕ → Life → StartedSync → Type 0
 StartedSyncKeeps sum P content life Done = KeepsAll sum P content life
 StartedSyncKeeps sum P content life (Named name) =
@@ -259,7 +262,7 @@ StartsOver sum w old new (Ok r) =
     → StartedSyncKeeps sum w.page_size (content w old.present.readable) new r.1)
 StartsOver sum w old new (Err e) = Fails sum w (content w old.present.readable) old new e
 
--- an append: it answers the size before
+-- an append, by its answer: it answers the size before
 abbrev pub Appends : (List ℕ → ℕ) → WriterState → List ℕ → Life → Life
     → Result (WriterState × ℕ) Error → Type 0
 Appends sum w bytes old new (Ok r) =

@@ -17,7 +17,8 @@ use Rattle.paged.specs.Flush.{has_work, without_value}
 use Rattle.paged.specs.Replays.{BeginsAtOnce, replay_calls}
 use Rattle.paged.specs.Snapshots.{CachesOfSeal, CopiesTail, seal_calls, snapshot_calls}
 
--- the costs of an append: none where the bytes fit the buffer
+-- what an append costs: its device calls, none if the bytes fit the buffer; and the pages that it
+-- puts in the cache
 pub record AppendCosts (w : WriterState) (bytes : List ℕ) (cache after : CacheState)
     (old new : Life) (result : Result (WriterState × ℕ) Error) : Type 0 where
   pub calls : AsksAtMost (wait_calls w.sync + 2) old new
@@ -32,7 +33,8 @@ pub record AppendCosts (w : WriterState) (bytes : List ℕ) (cache after : Cache
   pub refused : PutsOnceWaited cache after result
   pub idle_cache : length w.tip + length bytes ≤ w.capacity → after ≡ cache
 
--- the costs of a sync
+-- what a sync costs: its device calls, none if it has nothing to do; and the pages that it puts in
+-- the cache
 pub record SyncCosts (w : WriterState) (cache after : CacheState) (old new : Life)
     (result : Result WriterState Error) : Type 0 where
   pub calls : AsksAtMost (sync_calls w) old new
@@ -42,7 +44,8 @@ pub record SyncCosts (w : WriterState) (cache after : CacheState) (old new : Lif
   pub refused : wait_calls w.sync ≡ 1 → PutsOnceWaited cache after result
   pub idle_cache : has_work w true ≡ false → after ≡ cache
 
--- the costs of a start of a sync
+-- what a start of a sync costs: its device calls, none if it has nothing to do; and the pages that
+-- it puts in the cache
 pub record StartSyncCosts (w : WriterState) (cache after : CacheState) (old new : Life)
     (result : Result (WriterState × StartedSync) Error) : Type 0 where
   pub calls : AsksAtMost (start_calls w) old new
@@ -51,14 +54,15 @@ pub record StartSyncCosts (w : WriterState) (cache after : CacheState) (old new 
   pub refused : PutsOnceWaited cache after result
   pub idle_cache : has_work w true ≡ false → after ≡ cache
 
--- the costs of a wait, which uses no cache
+-- what a wait costs, which uses no cache: its device calls, none if no sync is pending
 pub record WaitForSyncCosts (w : WriterState) (old new : Life) (result : Result WriterState Error)
     : Type 0 where
   pub calls : AsksAtMost (wait_calls w.sync) old new
   pub settles : wait_calls w.sync ≡ 1 → SettlesBy w.sync old new (without_value result)
   pub idle : wait_calls w.sync ≡ 0 → (result ≡ Ok w) × (new ≡ old)
 
--- the costs of a snapshot: none where no full page is buffered
+-- what the making of a snapshot costs: its device calls, none if no full page is buffered; and the
+-- pages that it puts in the cache
 pub record SnapshotCosts (w : WriterState) (cache after : CacheState) (old new : Life)
     (result : Result (WriterState × Tail) Error) : Type 0 where
   pub calls : AsksAtMost (snapshot_calls w) old new
@@ -71,7 +75,8 @@ pub record SnapshotCosts (w : WriterState) (cache after : CacheState) (old new :
   pub refused : PutsOnceWaited cache after result
   pub idle_cache : has_work w false ≡ false → after ≡ cache
 
--- the costs of the beginning of a replay: none where all is written
+-- what the beginning of a replay costs: its device calls, none if all is written; and the pages
+-- that it puts in the cache
 pub record ReplayCosts (w : WriterState) (buffer_size : ℕ) (cache after : CacheState)
     (old new : Life) (result : Result (WriterState × ReplayState) Error) : Type 0 where
   pub calls : AsksAtMost (replay_calls w) old new
@@ -82,7 +87,7 @@ pub record ReplayCosts (w : WriterState) (buffer_size : ℕ) (cache after : Cach
   pub refused : PutsOnceWaited cache after result
   pub idle_cache : has_work w true ≡ false → after ≡ cache
 
--- the costs of the end of a writer
+-- what the end of a writer costs: its device calls, and the pages that it puts in the cache
 pub record SealCosts (w : WriterState) (cache after : CacheState) (old new : Life)
     (result : Result (Tail × StartedSync) Error) : Type 0 where
   pub calls : AsksAtMost (seal_calls w) old new

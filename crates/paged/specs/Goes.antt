@@ -21,7 +21,10 @@ use Rattle.paged.specs.Recovery.{IsAsOpened}
 use Rattle.paged.specs.Caches.{tail_of}
 use Rattle.paged.specs.Snapshots.{answer_of_seal}
 
--- a call ended well: the writer is the same, and its content is the content before and these bytes
+-- a call ended well: the writer is the same, its content is the one before and these bytes after
+-- it, and its size is that content's length. It leaves its content, and the log grows. What the
+-- sync covers that it no longer waits for is durable. If the sync that it now waits for has failed,
+-- this call is why, or it was so before.
 pub record Holds (sum : List ℕ → ℕ) (w : WriterState) (old : Life) (more : List ℕ)
     (now : WriterState) (new : Life) : Type 0 where
   pub same : IsSameWriter w now
@@ -39,20 +42,22 @@ pub record Holds (sum : List ℕ → ℕ) (w : WriterState) (old : Life) (more :
   -- (last, since a field hides a definition of its name from those after it)
   pub content : content now new.present.readable ≡ content w old.present.readable ++ more
 
--- a call of a writer failed: the cause of the error, and the log, which only grew
+-- a call was refused: the error has its cause (`CallCause`), and the log only grew
 pub record IsRefused (w : WriterState) (old new : Life) (e : Error) : Type 0 where
   pub cause : CallCause w.sync old new e
   pub log : LogGrows old.present new.present
 
 -- ---- an append
 
--- an append ended well: it answers the size before, and the writer's content ends with the bytes
+-- an append ended well: it answers the size before, and the content ends with the bytes
 pub record HasAppended (sum : List ℕ → ℕ) (w : WriterState) (bytes : List ℕ) (old new : Life)
     (now : WriterState) (at : ℕ) : Type 0 where
   pub at_end : at ≡ length (content w old.present.readable)
   pub holds : Holds sum w old bytes now new
   pub within : HoldsWithin now
 
+-- an append, by its answer alone: `HasAppended`; or `OffsetOverflow`, and nothing changed; or
+-- `IsRefused`
 abbrev pub AppendAnswers : (List ℕ → ℕ) → WriterState → List ℕ → Life → Life
     → Result (WriterState × ℕ) Error → Type 0
 AppendAnswers sum w bytes old new (Ok r) = HasAppended sum w bytes old new r.0 r.1
@@ -61,6 +66,8 @@ AppendAnswers sum w bytes old new (Err OffsetOverflow) =
     × (2 ^ 64 ≤ physical_blob_size w.page_size w.full_pages (length w.tip + length bytes))
 AppendAnswers sum w bytes old new (Err e) = IsRefused w old new e
 
+-- an append, by its answer: at `Ok` the bytes stand at the end of the content. `OffsetOverflow`
+-- comes exactly if the physical size would pass the greatest offset, and then nothing changed.
 pub record AppendGoes (sum : List ℕ → ℕ) (w : WriterState) (bytes : List ℕ) (old new : Life)
     (result : Result (WriterState × ℕ) Error) : Type 0 where
   pub answers : AppendAnswers sum w bytes old new result
@@ -69,7 +76,7 @@ pub record AppendGoes (sum : List ℕ → ℕ) (w : WriterState) (bytes : List �
 
 -- ---- a sync
 
--- all that was appended is durable
+-- a sync ended well: all that was appended is written and durable
 pub record HasSynced (sum : List ℕ → ℕ) (w : WriterState) (old new : Life) (now : WriterState)
     : Type 0 where
   pub holds : Holds sum w old [] now new
@@ -81,6 +88,7 @@ pub record HasSynced (sum : List ℕ → ℕ) (w : WriterState) (old new : Life)
   pub durable : IsSound sum w old.present
       → KeepsAll sum w.page_size (content w old.present.readable) new
 
+-- a sync, by its answer: `HasSynced` or `IsRefused`
 abbrev pub SyncAllGoes : (List ℕ → ℕ) → WriterState → Life → Life → Result WriterState Error
     → Type 0
 SyncAllGoes sum w old new (Ok now) = HasSynced sum w old new now
@@ -102,12 +110,14 @@ pub record HasStarted (sum : List ℕ → ℕ) (w : WriterState) (old new : Life
   pub goes : IsUnderWay sum w old new now started
   pub fresh : 0 < start_calls w → started ≡ Named (length old.present.started)
 
+-- a start of a sync, by its answer: `HasStarted` or `IsRefused`
 abbrev pub StartSyncGoes : (List ℕ → ℕ) → WriterState → Life → Life
     → Result (WriterState × StartedSync) Error → Type 0
 StartSyncGoes sum w old new (Ok r) = HasStarted sum w old new r.0 r.1
 StartSyncGoes sum w old new (Err e) = IsRefused w old new e
 
--- what the pending sync covers is durable
+-- a wait ended well: what the pending sync covers is durable, and the writer is as it was, except
+-- that it no longer waits
 pub record HasWaited (sum : List ℕ → ℕ) (w : WriterState) (old new : Life) (now : WriterState)
     : Type 0 where
   pub sound : IsSound sum w old.present → IsSound sum now new.present
@@ -116,6 +126,7 @@ pub record HasWaited (sum : List ℕ → ℕ) (w : WriterState) (old new : Life)
   pub state : now ≡ waited_writer w
   pub completes : Completes sum w.page_size w.sync old new
 
+-- a wait for the pending sync, by its answer: `HasWaited` or `IsRefused`
 abbrev pub WaitForSyncGoes : (List ℕ → ℕ) → WriterState → Life → Life → Result WriterState Error
     → Type 0
 WaitForSyncGoes sum w old new (Ok now) = HasWaited sum w old new now
@@ -135,6 +146,7 @@ pub record HasSnapshot (sum : List ℕ → ℕ) (w : WriterState) (after : Cache
   pub stands : IsSound sum w old.present
       → SnapshotReads sum t (content w old.present.readable) after new.present
 
+-- the making of a snapshot, by its answer: `HasSnapshot` or `IsRefused`
 abbrev pub SnapshotGoes : (List ℕ → ℕ) → WriterState → (after : CacheState) → Life → Life
     → Result (WriterState × Tail) Error → Type 0
 SnapshotGoes sum w after old new (Ok r) = HasSnapshot sum w after old new r.0 r.1
@@ -157,6 +169,7 @@ pub record HasReplay (sum : List ℕ → ℕ) (w : WriterState) (buffer_size : �
   pub stands : IsSound sum w old.present
       → SnapshotReads sum r.tail (content w old.present.readable) after new.present
 
+-- the beginning of a replay, by its answer: `HasReplay` or `IsRefused`
 abbrev pub ReplayGoes : (List ℕ → ℕ) → WriterState → (buffer_size : ℕ) → (after : CacheState)
     → Life → Life → Result (WriterState × ReplayState) Error → Type 0
 ReplayGoes sum w buffer_size after old new (Ok r) =
@@ -180,6 +193,7 @@ pub record HasSealed (sum : List ℕ → ℕ) (w : WriterState) (after : CacheSt
   pub stands : IsSound sum w old.present
       → SnapshotReads sum t (content w old.present.readable) after new.present
 
+-- the end of a writer, by its answer: `HasSealed` or `IsRefused`
 abbrev pub SealGoes : (List ℕ → ℕ) → WriterState → (after : CacheState) → Life → Life
     → Result (Tail × StartedSync) Error → Type 0
 SealGoes sum w after old new (Ok r) = HasSealed sum w after old new r.0 r.1

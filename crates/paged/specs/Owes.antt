@@ -15,7 +15,10 @@ use Rattle.writer_state.specs.Sound.{content}
 use Rattle.paged_read.specs.Replay.{LeavesReplays}
 use Rattle.paged_read.specs.Snapshots.{LeavesOthers, LeavesTails}
 
--- what a call guarantees at its moment e, where d is the moment at which it began
+-- what a call guarantees at its moment e, compared with the moment d at which it began. Every image
+-- keeps each floor of any content that every image kept. Each chance-free image has as its text a
+-- prefix of the content before, or of that after. The pages below the tip are what they were.
+-- Started syncs would keep what they would have kept.
 pub record Owed (sum : List ℕ → ℕ) (P full_pages : ℕ) (before after : List ℕ) (d e : Disk)
     : Type 0 where
   -- every image keeps each floor, of any content, that every image kept
@@ -28,14 +31,16 @@ pub record Owed (sum : List ℕ → ℕ) (P full_pages : ℕ) (before after : Li
   -- started syncs still cover what they covered
   pub covers : CoversStay sum P before d e
 
--- a call guarantees that at each moment since it began
+-- a call guarantees `Owed` at each moment since it began
 abbrev pub OwedThrough : (List ℕ → ℕ) → (P full_pages : ℕ) → (before after : List ℕ) → Life → Life
     → Type 0
 OwedThrough sum P full_pages before after old new =
     Through (Owed sum P full_pages before after old.present) old new
 
--- what a call guarantees that takes a writer, and after which its content is `all`, if it answers
--- `Ok`
+-- what a call guarantees that takes a writer, whatever it answers, where `all` is its content after
+-- `Ok`: `OwedThrough`; each started sync can still be waited for; only pages of the content were
+-- put in the cache, which is fresh; and each snapshot, each replay, and each read of another blob
+-- that was valid still is
 pub record Owes (sum : List ℕ → ℕ) (w : WriterState) (all : List ℕ) (cache after : CacheState)
     (old new : Life) : Type 0 where
   pub through : let held = content w old.present.readable in

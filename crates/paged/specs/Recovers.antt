@@ -44,6 +44,8 @@ pub record IsRecovered (sum : List ℕ → ℕ) (cache : CacheState) (capacity :
   pub settled : IsSettled w
   pub log : LogGrows old.present new.present
 
+-- a recovery, by its answer: `IsRecovered`; `OffsetOverflow` if the rounding of the capacity passes
+-- its type; `IdsExhausted` if no id is left; any other error has a cause
 abbrev pub Recovers : (List ℕ → ℕ) → CacheState → ℕ → Life → Life → Result WriterState Error
     → Type 0
 Recovers sum cache capacity old new (Ok w) = IsRecovered sum cache capacity old new w

@@ -66,7 +66,7 @@ pub data IsCutBack (old new : Life) (bytes : List ℕ) : SyncState → Type 0 wh
   cut : bytes ≢ old.present.readable → new.present.readable ≡ bytes → IsDurable new.present
       → IsCutBack old new bytes Clean
 
--- the slot of a partial page's value, where there is one
+-- the slot of a partial page's value, if there is one
 abbrev pub slot_of_tip : Option (List ℕ × ActiveChecksum) → Option ActiveChecksum
 slot_of_tip None = None
 slot_of_tip (Some p) = Some p.1
@@ -160,6 +160,9 @@ pub record IsOpened (sum : List ℕ → ℕ) (cache : CacheState) (capacity : �
   -- no device call failed
   pub served : NoneRefused old.present new.present
 
+-- an opening, by its answer: `IsOpened`; `OffsetOverflow` if the rounding of the capacity passes
+-- its type, and the life is unchanged; `IdsExhausted` if no id is left, once the blob was cut and
+-- the slot emptied; any other error has a cause
 abbrev pub Opens : (List ℕ → ℕ) → CacheState → ℕ → Life → Life → Result WriterState Error → Type 0
 Opens sum cache capacity old new (Ok w) = IsOpened sum cache capacity old new w
 Opens sum cache capacity old new (Err OffsetOverflow) =
@@ -197,5 +200,7 @@ BesideIsMended sum P full bytes (Some f) =
     let s = other f.slot in
     (0 < verified_len sum P s page) ⊎ (slot_of P s page ≡ replicate 6 0)
 
+-- in these bytes no slot of the page in which the writer's tip begins is bad: the one beside the
+-- value's verifies, or is six zeros
 abbrev pub TailIsMended : (List ℕ → ℕ) → WriterState → List ℕ → Type 0
 TailIsMended sum w bytes = BesideIsMended sum w.page_size w.full_pages bytes w.flushed

@@ -35,6 +35,9 @@ use Rattle.paged.specs.declared.within.Refusal.TheVariants.{Failed}
 
 -- ---- what a recovery guarantees, in pages of P bytes: at each of its moments, and at every answer
 
+-- what a recovery or an opening guarantees at each of its moments, whatever it answers, in pages of
+-- P bytes: each floor of any content is kept; if all was durable the whole text is kept and, if no
+-- checksum collides, there is no other; reads of other blobs stay valid; and a fresh cache is fresh
 pub record OwesRecovering (sum : List ℕ → ℕ) (P : ℕ) (cache after : CacheState) (old new : Life)
     : Type 0 where
   -- every image keeps each floor, of any content, that every image kept
@@ -49,6 +52,7 @@ pub record OwesRecovering (sum : List ℕ → ℕ) (P : ℕ) (cache after : Cach
 
 -- ---- an opening
 
+-- an opening, by its answer (`Opens`), and what holds of the writer that it gives
 pub record OpenGoes (sum : List ℕ → ℕ) (cache after : CacheState) (capacity : ℕ) (old new : Life)
     (result : Result WriterState Error) : Type 0 where
   pub answers : Opens sum cache capacity old new result
@@ -80,6 +84,7 @@ pub record IsNewWriter (sum : List ℕ → ℕ) (cache : CacheState) (new : Life
 abbrev pub KeepsWholeText : (List ℕ → ℕ) → (P : ℕ) → Life → Life → Type 0
 KeepsWholeText sum P old new = KeepsAll sum P (text sum P old.present.readable) new
 
+-- a recovery, by its answer (`Recovers`), and what holds of the writer that it gives
 pub record RecoverGoes (sum : List ℕ → ℕ) (cache after : CacheState) (capacity : ℕ)
     (old new : Life) (result : Result WriterState Error) : Type 0 where
   pub answers : Recovers sum cache capacity old new result
@@ -111,6 +116,9 @@ pub record RecoverWithinGoes (sum : List ℕ → ℕ) (cache after : CacheState)
 
 -- ---- a truncate to n bytes, of a writer that is sound or as it was opened
 
+-- a truncate, by its answer (`Truncates`), of a writer that is sound or as it was opened. A sound
+-- writer is sound then, every image keeps what is left, and at or above the size the call is a
+-- sync.
 pub record TruncateGoes (sum : List ℕ → ℕ) (n : ℕ) (w : WriterState) (cache after : CacheState)
     (old new : Life) (result : Result WriterState Error) : Type 0 where
   pub answers : Truncates sum n w old new result
@@ -133,7 +141,9 @@ pub record TruncateGoes (sum : List ℕ → ℕ) (n : ℕ) (w : WriterState) (ca
   pub usable : CanRead (tail_of w) cache old.present → IsFresh cache
       → IfOk result (λ v. IsUsable sum v after new)
 
--- what a truncate to n bytes guarantees at each of its moments, and at every answer
+-- what a truncate to n bytes guarantees at each of its moments, whatever it answers: each floor
+-- within n is kept, the pages that stay are what they were, and other blobs can be read; and what
+-- `Owes` has, for a sound writer
 pub record OwesCutting (sum : List ℕ → ℕ) (n : ℕ) (w : WriterState) (cache after : CacheState)
     (old new : Life) : Type 0 where
   -- floors within n bytes are kept, of any content
@@ -152,6 +162,7 @@ pub record OwesCutting (sum : List ℕ → ℕ) (n : ℕ) (w : WriterState) (cac
   -- if nothing is buffered that isn't written
   pub text : has_work w true ≡ false → LeavesText sum w.page_size old new
 
+-- what a truncate to n bytes costs: its device calls, and the pages that it puts in the cache
 pub record TruncateCosts (n : ℕ) (w : WriterState) (cache after : CacheState) (old new : Life)
     (result : Result WriterState Error) : Type 0 where
   pub calls : AsksAtMost (truncate_calls w n) old new

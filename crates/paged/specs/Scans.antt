@@ -63,7 +63,8 @@ pub record ScanFirstGoes (sum : List ℕ → ℕ) (w : WriterState) (proven max_
   pub never : IsSound sum w old.present ⊎ IsAsOpened sum w old.present → IsWithinBlob result
   pub none : max_size ≡ 0 → (result ≡ Ok 0) × (new ≡ old)
 
--- what such a scan asks of the device. For `max_size` 0 it asks nothing (`none` of `ScanFirstGoes`)
+-- what a scan of the pages that meet the first `max_size` bytes asks of the device. For `max_size`
+-- 0 it asks nothing (`none` of `ScanFirstGoes`)
 pub record ScanFirstCosts (sum : List ℕ → ℕ) (w : WriterState) (proven max_size buffer_size : ℕ)
     (old new : Life) : Type 0 where
   pub reads : let P = w.page_size in let end = scan_end P (flushed_pages w) max_size in

@@ -40,7 +40,8 @@ CopiesTail w (Ok r) = (r.0 ≡ w) × (r.1 ≡ tail_of w)
 CopiesTail w (Err OutOfMemory) = Unit {0}
 CopiesTail w (Err _) = ⊥
 
--- a snapshot for which nothing is written: none while a full page is buffered
+-- a snapshot for which nothing is written, by the answer: none exactly while a full page is
+-- buffered
 abbrev pub TriesSnapshot : WriterState → Result (Option Tail) Error → Type 0
 TriesSnapshot w (Ok (Some t)) = (length w.tip < w.page_size) × (t ≡ tail_of w)
 TriesSnapshot w (Ok None) = w.page_size ≤ length w.tip
@@ -68,8 +69,8 @@ abbrev pub seal_calls : WriterState → ℕ
 seal_calls w =
     wait_calls w.sync + (if has_work w true then 2 else unstarted_calls w.sync)
 
--- what a seal answers: `Done` if it had nothing to do, or only to wait, since all is durable then.
--- Else the name that comes next
+-- what a seal answers: `Done` if it had nothing to do, or only to wait, since all is durable then;
+-- otherwise the name that comes next
 abbrev pub answer_of_seal : WriterState → Life → StartedSync
 answer_of_seal w old =
     if nat_eq (seal_calls w) (wait_calls w.sync)

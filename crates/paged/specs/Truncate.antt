@@ -60,14 +60,18 @@ shortened_writer sum w n bytes =
       sync = Clean;
     }
 
--- what a truncate to n bytes leaves of a blob of which all is written, and of its writer: a cut if
--- there is more than n bytes, and else a sync alone
+-- what a truncate to n bytes leaves of a blob of which all is written: a cut if it has more than n
+-- bytes, and otherwise its bytes as they are
 abbrev pub cut_bytes : (List ℕ → ℕ) → WriterState → (n : ℕ) → List ℕ → List ℕ
 cut_bytes sum w n bytes = if nat_lt n (size_of w) then shortened sum w.page_size n bytes else bytes
 
+-- the writer after a truncate to n bytes of a blob of which all is written: the one after a cut if
+-- it has more than n bytes, and otherwise the same with nothing unsynced
 abbrev pub cut_writer : (List ℕ → ℕ) → WriterState → (n : ℕ) → List ℕ → WriterState
 cut_writer sum w n bytes = if nat_lt n (size_of w) then shortened_writer sum w n bytes else synced w
 
+-- a truncate of a blob of which all was written: the writer and the bytes are exactly those of
+-- `cut_writer` and `cut_bytes`
 pub record IsCut (sum : List ℕ → ℕ) (n : ℕ) (w : WriterState) (old new : Life) (now : WriterState)
     : Type 0 where
   pub state : now ≡ cut_writer sum w n old.present.readable
@@ -79,7 +83,7 @@ abbrev pub shorten_calls : (P size n : ℕ) → ℕ
 shorten_calls P size n =
     (if div_ceil n P == div_ceil size P then 0 else 2) + (if n % P == 0 then 0 else 4)
 
--- the device calls of a truncate to n bytes
+-- how many device calls a truncate to n bytes makes at most: those of a sync, and those of the cut
 abbrev pub truncate_calls : WriterState → (n : ℕ) → ℕ
 truncate_calls w n =
     sync_calls w
@@ -122,6 +126,7 @@ TruncateCause sum n w old new InvalidChecksum =
 TruncateCause sum n w old new OutOfMemory = NoneRefused old.present new.present
 TruncateCause sum n w old new _ = ⊥
 
+-- a truncate, by its answer: `IsTruncated`, or an error that has its cause
 abbrev pub Truncates : (List ℕ → ℕ) → (n : ℕ) → WriterState → Life → Life
     → Result WriterState Error → Type 0
 Truncates sum n w old new (Ok now) = IsTruncated sum n w old new now
@@ -239,6 +244,8 @@ pub record IsShortened (sum : List ℕ → ℕ) (n : ℕ) (w : WriterState) (old
   pub durable : IsDurable new.present
   pub served : NoneRefused old.present new.present
 
+-- a cut to n bytes of a blob of which all is durable, by its answer: `IsShortened`, or an error
+-- that has its cause
 abbrev pub Shortens : (List ℕ → ℕ) → (n : ℕ) → WriterState → Life → Life
     → Result WriterState Error → Type 0
 Shortens sum n w old new (Ok now) = IsShortened sum n w old new now

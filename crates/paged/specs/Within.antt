@@ -41,7 +41,8 @@ RecoversWithin sum cache capacity allowed old new (Err (Failed e)) =
     (Looked old new ⊎ MayGo sum cache.page_size allowed old.present.readable)
     × Recovers sum cache capacity old new (Err e)
 
--- the cache after such a recovery: if more would go than is allowed, it gave no id
+-- the cache after a recovery within a limit: if more would go than is allowed it gave no id, and
+-- otherwise as after a recovery
 abbrev pub GivesIdWithin : Result WriterState Refusal → CacheState → CacheState → Type 0
 GivesIdWithin (Ok w) old new = GivesId (Ok w) old new
 GivesIdWithin (Err (WouldCut cut)) old new = new ≡ old

@@ -118,6 +118,6 @@ ReadsLacks sum t pages lacks buf after old new (Ok _) =
 ReadsLacks sum t pages lacks buf after old new (Err e) =
     PagesFault sum t.page_size pages old new e
 
--- ranges of one length
+-- ranges of one length, from these offsets on
 abbrev pub ranges_of : (len : ℕ) → List ℕ → List (ℕ × ℕ)
 ranges_of len offsets = map (λ offset. (offset, len)) offsets

@@ -35,7 +35,7 @@ pub record IsHand (P : ℕ) (all : List (List ℕ)) (start left remaining : ℕ)
   pub fits : start + left < 2 ^ 64
   pub count : remaining ≡ length (payloads_from P all start left)
 
--- bytes at hand, of pages of this size
+-- the bytes that a replay has at hand, of pages of this size
 pub record HandState : Type 0 where
   pub page_size : ℕ
   pub bytes : List ℕ

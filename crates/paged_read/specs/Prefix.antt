@@ -11,12 +11,13 @@ use Rattle.paged_read.specs.Ranges.{page_at}
 abbrev pub after_pages : ℕ → Prefix → Prefix
 after_pages n p = record p { full_pages = n + p.full_pages }
 
--- a page's value with the slot that covers it; none where no slot verifies
+-- a page's value with the slot that covers it; none if no slot verifies
 abbrev pub value_and_slot : Option ActiveChecksum → List ℕ → Option (List ℕ × ActiveChecksum)
 value_and_slot None page = None
 value_and_slot (Some slot) page = Some (take slot.len page, slot)
 
--- the full pages at the front of some pages, and the value of the page after them, if it has one
+-- what a search forward from the first page finds: how many pages are full, and the value of the
+-- page after them with its slot, if it has one
 abbrev pub prefix_of : (List ℕ → ℕ) → ℕ → List (List ℕ) → Prefix
 prefix_of sum P [] = record { full_pages = 0; partial = None }
 prefix_of sum P (page ∷ rest) =
@@ -24,7 +25,8 @@ prefix_of sum P (page ∷ rest) =
     then after_pages 1 (prefix_of sum P rest)
     else record { full_pages = 0; partial = value_and_slot (active sum P page) page }
 
--- the first pages of a blob up to the last that has a value; those before that one count as full
+-- what a search back from the last page finds: the pages up to the last that has a value; those
+-- before that one count as full, unread
 abbrev pub last_prefix : (List ℕ → ℕ) → ℕ → ℕ → List ℕ → Prefix
 last_prefix sum P zero bytes = record { full_pages = 0; partial = None }
 last_prefix sum P (suc n) bytes =
@@ -33,14 +35,16 @@ last_prefix sum P (suc n) bytes =
     else (if value_len sum P page == P then record { full_pages = n + 1; partial = None }
     else record { full_pages = n; partial = value_and_slot (active sum P page) page })
 
+-- how many partial pages a prefix has, by its partial value: 1, or 0 without one
 abbrev pub partial_pages : Option (List ℕ × ActiveChecksum) → ℕ
 partial_pages None = 0
 partial_pages (Some p) = 1
 
--- how many pages a prefix has
+-- how many pages a prefix has, the partial one included
 abbrev pub prefix_pages : Prefix → ℕ
 prefix_pages p = p.full_pages + partial_pages p.partial
 
+-- the value of a prefix's partial page; no bytes without one
 abbrev pub tip_of : Option (List ℕ × ActiveChecksum) → List ℕ
 tip_of None = []
 tip_of (Some p) = p.0

@@ -24,14 +24,15 @@ pub record PutsFirst (sum : List ℕ → ℕ) (t : Tail) (pages readable : List 
   pub full : ArePagesFull sum t.page_size (take count pages) readable
   pub puts : PutsPages t.id (logical_bytes t readable) (take count pages) old new
 
--- a read of these pages puts all of them, in this order. Where it fails it puts the first ones.
+-- a read of these pages puts all of them at Ok, in this order, and at an error only the first ones
 abbrev pub PutsInOrder : {A : Type 0} → (List ℕ → ℕ) → Tail → (pages readable : List ℕ)
     → CacheState → CacheState → Result A Error → Type 0
 PutsInOrder sum t pages readable old new (Ok _) =
     PutsPages t.id (logical_bytes t readable) pages old new
 PutsInOrder sum t pages readable old new (Err _) = PutsFirst sum t pages readable old new
 
--- a read of these pages puts them as `PutsInOrder` has it, in some order
+-- a read of these pages puts them in some order: all of them at Ok, and at an error the first ones
+-- of that order (`PutsInOrder`)
 pub record PutsSome {A : Type 0} (sum : List ℕ → ℕ) (t : Tail) (pages readable : List ℕ)
     (old new : CacheState) (result : Result A Error) : Type 0 where
   pub order : List ℕ

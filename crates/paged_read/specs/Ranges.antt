@@ -17,7 +17,7 @@ use Rattle.crash.specs.Looks.{Looked}
 use Rattle.paged_read.specs.Failures.{NoneFailed}
 use Rattle.paged_read.specs.Tail.{Tail, logical_bytes, tail_size, CanRead}
 
--- a physical page by its offset
+-- a physical page of some bytes, by its number
 abbrev pub page_at : ℕ → ℕ → List ℕ → List ℕ
 page_at P p bytes = take (P + 12) (drop (p * (P + 12)) bytes)
 
@@ -116,8 +116,8 @@ ReadsUpTo sum t cache offset len old new (Err OffsetOverflow) = ⊥
 ReadsUpTo sum t cache offset len old new (Err e) =
     ReadFault sum cache t (range_up_to t offset len ∷ []) old new e
 
--- at most one device call for each page that is missing as the read begins: so none where the range
--- is served
+-- a read makes at most one device call for each page that is missing as it begins, and so none if
+-- the range is served
 abbrev pub AsksForMissing : CacheState → Tail → ℕ × ℕ → Life → Life → Type 0
 AsksForMissing cache t range old new =
     (length new.present.log ≤ length old.present.log + length (missing cache t (range ∷ [])))
@@ -153,19 +153,21 @@ ReadsMany sum t cache ranges bytes old new (Err e) =
 abbrev pub page_ranges : (P : ℕ) → List ℕ → List (ℕ × ℕ)
 page_ranges P pages = map (λ page. (page * (P + 12), P + 12)) pages
 
--- the device is asked for all of these ranges in one call, at most once. Where there is no range it
--- isn't asked
+-- the device is asked for all of these ranges in one call, at most once; for no range it isn't
+-- asked
 abbrev pub AsksTogether : List (ℕ × ℕ) → Life → Life → Type 0
 AsksTogether [] old new = new ≡ old
 AsksTogether (range ∷ ranges) old new =
     (new ≡ old) ⊎ ((failed : Bool) × AskedOnce (ReadMany (range ∷ ranges)) failed old new)
 
--- a read of many ranges asks for the missing pages alone
+-- a read of many ranges makes one device call, for exactly the missing pages, or none if no page is
+-- missing
 abbrev pub AsksOnce : CacheState → Tail → List (ℕ × ℕ) → Life → Life → Type 0
 AsksOnce cache t ranges old new =
     AsksTogether (page_ranges t.page_size (missing cache t ranges)) old new
 
--- the numbers of the ranges that would need the device, or of all ranges where one can't be read
+-- the answer of a read that asks no device: the numbers of the ranges that would need it, or of all
+-- ranges if one can't be read
 abbrev pub Misses : Tail → List (ℕ × ℕ) → CacheState → List ℕ → Type 0
 Misses t ranges cache indices =
     (EndWithin (tail_size t) ranges × (indices ≡ missed_from 0 cache t ranges))

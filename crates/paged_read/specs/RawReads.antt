@@ -55,7 +55,7 @@ all_of len (Err e) = Err e
 abbrev pub range_end : (P offset len : ℕ) → ℕ
 range_end P offset len = (offset + len - 1) / P + 1
 
--- the bytes of a range, or why they can't be read
+-- the bytes of a range of a blob that nobody opened, or why they can't be read
 abbrev pub range_told : (List ℕ → ℕ) → (P offset len : ℕ) → List ℕ → Result (List ℕ) Error
 range_told sum P offset len readable =
     if nat_le (2 ^ 64) (offset + len) then Err OffsetOverflow
@@ -79,8 +79,8 @@ after_told sum P page len readable (Ok bytes) =
     else ending_at end (joined_results (range_told sum P from (page * P - from) readable)
     (Ok (drop (from - page * P) bytes)))
 
--- the logical size of a blob of so many physical bytes, and its last bytes, or why they can't be
--- read
+-- the logical size of a blob of so many physical bytes, and its last `len` bytes; or why they can't
+-- be read
 abbrev pub tail_told : (List ℕ → ℕ) → (P size len : ℕ) → List ℕ → Result (ℕ × List ℕ) Error
 tail_told sum P size len readable =
     let page = size / (P + 12) - 1 in
@@ -90,8 +90,9 @@ tail_told sum P size len readable =
     else after_told sum P page len readable (value_told sum P page readable))
     else Err BlobInsufficientLength
 
--- a read gives the bytes of this result, or fails with its error. Else the device failed in the
--- call, or it didn't and memory was refused. The read only looks at the blob
+-- a read gives the bytes of this result, or fails with its error, and only looks at the blob. The
+-- only other errors are those of a device that failed in the call, and of memory, and then no
+-- device call failed.
 abbrev pub ReadsTold : {A B : Type 0} → (A → B) → Result B Error → Life → Life → Result A Error
     → Type 0
 ReadsTold of told old new (Ok a) =
@@ -140,8 +141,8 @@ ReadsTail sum P size len old new =
     let from = last * P + value_len sum P (page_at P last old.present.readable) - len in
     ReadsBefore P last from old new
 
--- the answers that need no page: an error where the size isn't whole pages, or is 0 and bytes are
--- asked for, and 0 bytes of a blob of size 0. They come before the device or memory is asked
+-- the answers that need no page: an error if the size isn't whole pages, or is 0 and bytes are
+-- asked for; and 0 bytes of a blob of size 0. They come before the device or memory is asked.
 abbrev pub EndsUnread : (P size len : ℕ) → Life → Life → Result (ℕ × List (List ℕ)) Error → Type 0
 EndsUnread P size len old new result =
     ((size % (P + 12) ≢ 0) ⊎ ((size ≡ 0) × (len ≢ 0))

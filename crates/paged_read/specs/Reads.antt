@@ -22,7 +22,7 @@ use Rattle.paged_read.specs.Snapshots.{LeavesAllWriters}
 
 -- ---- what a read answers
 
--- the answer isn't `InvalidChecksum`, where the pages of the tail are full
+-- the answer isn't `InvalidChecksum` if the pages of the tail are full
 abbrev pub NeverBad : {A : Type 0} → (List ℕ → ℕ) → Tail → Disk → Result A Error → Type 0
 NeverBad sum t d result = HasFullPages sum t d → IsErrOf result InvalidChecksum → ⊥
 
@@ -33,7 +33,7 @@ NeverBadIfSound sum t d result =
     (w : WriterState) → IsSound sum w d → w.page_size ≡ t.page_size
     → t.full_pages ≤ w.full_pages → IsErrOf result InvalidChecksum → ⊥
 
--- a read of one range
+-- a read of one range, by its answer (`Reads`), and what is always refused
 pub record ReadGoes {A : Type 0} (sum : List ℕ → ℕ) (t : Tail) (cache : CacheState)
     (range : ℕ × ℕ) (bytes : A → List ℕ) (old new : Life) (result : Result A Error) : Type 0 where
   pub answers : Reads sum t cache range bytes old new result
@@ -43,7 +43,8 @@ pub record ReadGoes {A : Type 0} (sum : List ℕ → ℕ) (t : Tail) (cache : Ca
   pub never : NeverBad sum t old.present result
   pub never_if_sound : NeverBadIfSound sum t old.present result
 
--- a read into a buffer: where the cache holds all pages it needs no memory
+-- a read of one range into a buffer, by its answer, and what is always refused; if the cache holds
+-- all pages it needs no memory
 pub record ReadIntoGoes (sum : List ℕ → ℕ) (t : Tail) (cache : CacheState) (offset : ℕ)
     (buf after : List ℕ) (old new : Life) (result : Result (Unit {0}) Error) : Type 0 where
   pub answers : Reads sum t cache (offset, length buf) (λ _. after) old new result
@@ -56,7 +57,8 @@ pub record ReadIntoGoes (sum : List ℕ → ℕ) (t : Tail) (cache : CacheState)
   pub never_if_sound : NeverBadIfSound sum t old.present result
   pub size : length after ≡ length buf
 
--- a read of as many bytes as there are, up to `len`; for `len` 0 it never fails
+-- a read of as many bytes as there are, at most `len`, by its answer (`ReadsUpTo`); for `len` 0 it
+-- never fails
 pub record ReadUpToGoes (sum : List ℕ → ℕ) (t : Tail) (cache : CacheState) (offset len : ℕ)
     (old new : Life) (result : Result (Vec ℕ Global × ℕ) Error) : Type 0 where
   pub answers : ReadsUpTo sum t cache offset len old new result
@@ -65,7 +67,8 @@ pub record ReadUpToGoes (sum : List ℕ → ℕ) (t : Tail) (cache : CacheState)
   pub never : NeverBad sum t old.present result
   pub never_if_sound : NeverBadIfSound sum t old.present result
 
--- a read of many ranges into a buffer: where the cache holds all pages it needs no memory
+-- a read of many ranges into a buffer, by its answer (`ReadsMany`); if the cache holds all pages it
+-- needs no memory
 pub record ReadRangesGoes (sum : List ℕ → ℕ) (t : Tail) (cache : CacheState)
     (ranges : List (ℕ × ℕ)) (buf after : List ℕ) (old new : Life) (result : Result ℕ Error)
     : Type 0 where
@@ -75,7 +78,7 @@ pub record ReadRangesGoes (sum : List ℕ → ℕ) (t : Tail) (cache : CacheStat
   pub never_if_sound : NeverBadIfSound sum t old.present result
   pub size : length after ≡ length buf
 
--- a read of ranges of one length, which takes memory for them
+-- a read of ranges of one length, by its answer (`ReadsMany`); it takes memory for the ranges
 pub record ReadManyGoes (sum : List ℕ → ℕ) (t : Tail) (cache : CacheState)
     (ranges : List (ℕ × ℕ)) (buf after : List ℕ) (old new : Life) (result : Result ℕ Error)
     : Type 0 where
@@ -103,9 +106,9 @@ TryReadManyGoes t ranges cache buf after (Err _) = ⊥
 
 -- ---- what a read leaves
 
--- the disk is as it was except for its log, and the cache except for pages of the content that
--- were put, and pages that went for them. So each writer, snapshot, replay and read that was valid
--- before the call still is, of this blob and of others.
+-- what a read leaves, whatever it answers: the disk is as it was except for its log, and the cache
+-- except for pages of the content that were put, and pages that went for them. So each writer,
+-- snapshot, replay and read that was valid before the call still is, of this blob and of others.
 pub record ReadLeaves (sum : List ℕ → ℕ) (t : Tail) (cache after : CacheState) (old new : Life)
     : Type 0 where
   pub looked : Looked old new
@@ -117,8 +120,8 @@ pub record ReadLeaves (sum : List ℕ → ℕ) (t : Tail) (cache after : CacheSt
   pub replays : LeavesAllReplays old new
   pub others : LeavesOthers t.id cache after
 
--- a call that only looks at a blob, without a cache: each writer, snapshot, replay and read that
--- was valid before the call still is
+-- what a call leaves that only looks at a blob and is lent no cache: each writer, snapshot, replay
+-- and read that was valid before the call still is
 pub record LookLeaves (sum : List ℕ → ℕ) (old new : Life) : Type 0 where
   pub looked : Looked old new
   pub writers : LeavesAllWriters sum old new
@@ -128,13 +131,15 @@ pub record LookLeaves (sum : List ℕ → ℕ) (old new : Life) : Type 0 where
 
 -- ---- what a read costs
 
--- a read of one range: device calls, and pages that are put in the cache
+-- what a read of one range costs: its device calls, as `AsksForMissing` has it, and the pages that
+-- it puts in the cache
 pub record ReadCosts {A : Type 0} (sum : List ℕ → ℕ) (t : Tail) (range : ℕ × ℕ)
     (cache after : CacheState) (old new : Life) (result : Result A Error) : Type 0 where
   pub asks : AsksForMissing cache t range old new
   pub puts : PutsAsked sum t (missing cache t (range ∷ [])) old new cache after result
 
--- a read of many ranges: device calls, and pages that are put in the cache
+-- what a read of many ranges costs: its device calls, as `AsksOnce` has it, and the pages that it
+-- puts in the cache
 pub record ReadManyCosts {A : Type 0} (sum : List ℕ → ℕ) (t : Tail) (ranges : List (ℕ × ℕ))
     (cache after : CacheState) (old new : Life) (result : Result A Error) : Type 0 where
   pub asks : AsksOnce cache t ranges old new

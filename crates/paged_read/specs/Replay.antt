@@ -69,8 +69,8 @@ pub record IsReplayOf (sum : List ℕ → ℕ) (r : ReplayState) (content : List
   pub can : CanReplay r d
   pub hand : r.hand ≡ take (length r.hand) (drop r.position content)
 
--- no device is needed for so many bytes: they are at hand, or all that is left is after the full
--- pages
+-- no device is needed to have so many bytes at hand: they are, or all that is left is among the
+-- bytes after the full pages
 abbrev pub IsHad : ReplayState → (count : ℕ) → Type 0
 IsHad r count = (count ≤ length r.hand) ⊎ (r.tail.full_pages * r.tail.page_size ≤ end_of r)
 
@@ -193,12 +193,15 @@ batches_between r now =
     let P = r.tail.page_size in
     div_ceil (min r.tail.full_pages (end_of now / P) - end_of r / P) r.batch
 
--- the read that a call may have made in vain
+-- how many reads a call may have made in vain: one if it failed, and none otherwise
 abbrev pub vain_reads : {A : Type 0} → Result A Error → ℕ
 vain_reads (Ok _) = 0
 vain_reads (Err _) = 1
 
--- the costs of a call that gets so many bytes at hand: no device is asked if none is needed
+-- what a call that gets so many bytes at hand costs: if it needs no device it asks none; otherwise
+-- it makes four reads at most for each batch that came to hand, or three fewer in all if the next
+-- batches were read ahead, and one more if it fails. Each is of one batch, none of which was at
+-- hand.
 pub record EnsureCosts (r : ReplayState) (count : ℕ) (now : ReplayState) (old new : Life)
     (result : Result Bool Error) : Type 0 where
   pub idle : IsHad r count → new ≡ old
@@ -209,7 +212,7 @@ pub record EnsureCosts (r : ReplayState) (count : ℕ) (now : ReplayState) (old 
   pub reads : let P = r.tail.page_size in
       ReadsBatches P r.batch r.tail.full_pages (end_of r / P) old new
 
--- so many bytes of those at hand are passed over, or all
+-- a replay that has passed so many of its bytes at hand, or all of them if it has fewer
 abbrev pub advanced : ℕ → ReplayState → ReplayState
 advanced count r = record r {
   position = r.position + min count (length r.hand);
@@ -224,7 +227,7 @@ pub record Takes (r : ReplayState) (count : ℕ) (now : ReplayState) (bytes : Li
   pub moves : now ≡ advanced count r
   pub gives : Gives r bytes
 
--- so many bytes are taken as a copy; or memory is refused, and nothing changes
+-- so many bytes are taken as a copy, by the answer; or memory is refused, and nothing changed
 abbrev pub CopyToBytesGoes : (r : ReplayState) (count : ℕ) (now : ReplayState)
     → Result (List ℕ) Error → Type 0
 CopyToBytesGoes r count now (Ok bytes) = Takes r count now bytes
@@ -239,13 +242,15 @@ pub record TakesNone (r now : ReplayState) (out after : List ℕ) (few : TooFew)
   pub available : few.available ≡ length r.hand
   pub fewer : few.available < few.requested
 
--- as many as a slice has room for are taken, or none
+-- a slice is filled with the bytes at hand, by the answer; or fewer are at hand than it has room
+-- for, and nothing changed
 abbrev pub CopyToSliceGoes : (r now : ReplayState) (out after : List ℕ) → Result (Unit {0}) TooFew
     → Type 0
 CopyToSliceGoes r now out after (Ok _) = Takes r (length out) now after
 CopyToSliceGoes r now out after (Err few) = TakesNone r now out after few
 
--- a replay goes to an offset; what is queued stays
+-- a replay goes to an offset up to the size: the bytes at hand are let go, and what is queued
+-- stays. A greater offset is refused, and nothing changed.
 abbrev pub Seeks : ReplayState → (offset : ℕ) → ReplayState → Result (Unit {0}) Error → Type 0
 Seeks r offset now (Ok _) =
     (offset ≤ tail_size r.tail) × (now ≡ record r {

@@ -27,7 +27,8 @@ AreReadsWithin most (_ ∷ rest) = AreReadsWithin most rest
 abbrev pub ReadsWithin : ℕ → Life → Life → Type 0
 ReadsWithin most old new = Gained (AreReadsWithin most) old new
 
--- the bytes of a scan's longest read: the pages that fit so many bytes, and at least one
+-- the bytes of a scan's longest read: those of the pages that fit a buffer of so many bytes, and of
+-- one page at least
 abbrev pub scan_bytes : (P buffer_size : ℕ) → ℕ
 scan_bytes P buffer_size = max 1 (buffer_size / (P + 12)) * (P + 12)
 

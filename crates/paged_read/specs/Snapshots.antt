@@ -11,7 +11,7 @@ use Rattle.crash.specs.Stays.{KeepsAllFloors, LeavesOnly, StaysThrough}
 use Rattle.paged_read.specs.Tail.{Tail, logical_bytes, IsView, HasPages, HasFullPages, CanRead}
 
 -- what holds of a snapshot's own bytes: they begin after whole pages, are fewer than a page has,
--- and their end is below 2^64
+-- and their end is below 2 ^ 64
 pub record IsSealed (P : ℕ) (tip : Tip) : Type 0 where
   pub page_size : tip.page_size ≡ P
   pub view : IsView P tip
@@ -33,6 +33,7 @@ pub record SnapshotReads (sum : List ℕ → ℕ) (t : Tail) (content : List ℕ
   pub can : CanRead t cache d
 
 -- a call of a blob leaves valid each snapshot of at most `full_pages` of its pages
+-- (`SnapshotReads`)
 abbrev pub LeavesTails : (List ℕ → ℕ) → (full_pages : ℕ) → CacheState → CacheState → Life → Life
     → Type 0
 LeavesTails sum full_pages cache after old new =

@@ -11,14 +11,15 @@ use Rattle.crash.specs.Contents.{stored}
 use Rattle.cache.specs.CacheState.{CacheState}
 use Rattle.cache.specs.Pages.{IsTrueFor}
 
--- full pages of a blob of this id, and the bytes after them
+-- what reads are made from: the page size, the id of a blob, how many full pages it has, and the
+-- bytes after them
 pub record Tail : Type 0 where
   pub page_size : ℕ
   pub id : ℕ
   pub full_pages : ℕ
   pub bytes : List ℕ
 
--- the tail of a blob whose tip is this one
+-- the tail that reads see of a blob whose buffered bytes are this tip
 abbrev pub tail_at : NonZeroU16 → (id : ℕ) → Tip → Tail
 tail_at page_size id tip = record {
   page_size = non_zero_u16_get page_size;
@@ -32,7 +33,8 @@ pub record IsView (P : ℕ) (tip : Tip) : Type 0 where
   pub whole : tip.offset ≡ tip.offset / P * P
   pub fits : tip.offset / P * (P + 12) < 2 ^ 64
 
--- the logical bytes: the pages' payloads, and the bytes after them
+-- the logical bytes of a tail over physical bytes: the payloads of its pages, and the bytes after
+-- them
 abbrev pub logical_bytes : Tail → List ℕ → List ℕ
 logical_bytes t readable = stored t.page_size t.full_pages readable ++ t.bytes
 

@@ -21,7 +21,7 @@ use Rattle.protocol.specs.declared.stop.Stop.TheVariants.{LongAnswer, Failed}
 use Rattle.protocol.specs.Output.{AppendsPart}
 use Rattle.protocol.specs.Request.{frame_bytes, length_bytes, number_bytes}
 
--- the status of an answer
+-- the status of a reply, as an answer begins with it
 abbrev pub status_byte : Reply → ℕ
 status_byte (Fault error) = number_of error
 status_byte Nothing = 16
@@ -32,28 +32,28 @@ status_byte NoSuch = 20
 status_byte NotAppending = 21
 status_byte reply = 0
 
--- the error that a client gets, by whether a sync of the file has failed: then what the layer
--- answers as a failed write, or a failed change of the size, was that sync
+-- the error that a client gets, by whether a sync of the file has failed: if so, a failed write or
+-- a failed change of the size is answered as a failed sync
 abbrev pub told_error : Error → (sync_failed : Bool) → Error
 told_error error.WriteFailed true = error.SyncFailed
 told_error error.ResizeFailed true = error.SyncFailed
 told_error other sync_failed = other
 
--- the status of a reply as a client gets it
+-- the status of a reply as a client gets it, by whether a sync of the file has failed
 abbrev pub told_status : Reply → (sync_failed : Bool) → ℕ
 told_status (Fault fault) sync_failed = number_of (told_error fault sync_failed)
 told_status reply sync_failed = status_byte reply
 
--- what starting a sync answered
+-- what starting a sync answered, as bytes
 abbrev pub started_bytes : StartedSync → List ℕ
 started_bytes AllDone = 0 ∷ []
 started_bytes (Named name) = 1 ∷ number_bytes name
 
--- yes or no, as a byte
+-- yes or no, as a byte: 1 or 0
 abbrev pub flag_byte : Bool → ℕ
 flag_byte flag = if flag then 1 else 0
 
--- what is written after the status
+-- what is written of a reply after its status
 abbrev pub reply_payload : Reply → List ℕ
 reply_payload (At offset) = number_bytes offset
 reply_payload (Length size) = number_bytes size
@@ -67,7 +67,8 @@ reply_payload (Missed numbers) = flat_map number_bytes numbers.items
 reply_payload (Sealed index started) = number_bytes index ++ started_bytes started
 reply_payload reply = []
 
--- an answer as it is written, by whether a sync of the file has failed
+-- an answer as it is written, its status and what follows in a frame, by whether a sync of the file
+-- has failed
 abbrev pub answer_bytes : Reply → (sync_failed : Bool) → List ℕ
 answer_bytes reply sync_failed = frame_bytes (told_status reply sync_failed ∷ reply_payload reply)
 
@@ -77,11 +78,11 @@ refusal_bytes = frame_bytes (22 ∷ [])
 
 -- ---- refusals of version 2
 
--- the statuses of requests whose bytes can't be read as records or as ranges, and of a change by a
--- client that may only read
+-- the status of a request whose bytes can't be read as records or as ranges
 abbrev pub unreadable_status : ℕ
 unreadable_status = 23
 
+-- the status of a request for a change by a client that may only read
 abbrev pub read_only_status : ℕ
 read_only_status = 22
 
@@ -94,9 +95,9 @@ flaw_status flaw.Length = 35
 flaw_status flaw.LongRead = 36
 flaw_status flaw.NoBuffer = 37
 
--- what a client may do next: 0, ask for something else; 1, ask again; 2, open the file anew; 3,
--- replace it by a copy of itself. The last is for a failed sync. For other errors it depends on
--- whether the writer is still there
+-- what a client may do next after an error: 0, ask for something else; 1, ask again; 2, open the
+-- file anew; 3, replace it by a copy of itself. The last is for a failed sync; for other errors it
+-- depends on whether the writer is still there.
 abbrev pub advice_for : Error → (has_writer : Bool) → ℕ
 advice_for error.SyncFailed has_writer = 3
 advice_for error.ReadFailed has_writer = if has_writer then 1 else 2
@@ -105,15 +106,17 @@ advice_for error.BlobInsufficientLength has_writer = 0
 advice_for error.OffsetOverflow has_writer = if has_writer then 0 else 2
 advice_for other has_writer = 2
 
--- the same by a reply. Once a sync of the file has failed, it is to be replaced, whatever the reply
+-- what a client may do next after a reply, as a number. Once a sync of the file has failed it is 3,
+-- whatever the reply: replace the file.
 abbrev pub advice_byte : Reply → (has_writer sync_failed : Bool) → ℕ
 advice_byte reply has_writer true = 3
 advice_byte (Fault error) has_writer false = advice_for error has_writer
 advice_byte Closed has_writer false = 2
 advice_byte reply has_writer false = 0
 
--- a refusal has its status, what may be done next, how many steps of the request were taken, and
--- the system's number and words for why the file failed, or 0 and no words if it didn't
+-- the answer of version 2 that refuses: a status, what may be done next, how many steps of the
+-- request were taken, and the system's number and words for why the file failed, or 0 and no words
+-- if it didn't
 pub record IsRefusalAnswer (status advice taken : ℕ) (answer : List ℕ) : Type 0 where
   pub number : ℕ
   pub words : List ℕ
@@ -125,7 +128,7 @@ abbrev pub AppendsRefusal : (status advice taken : ℕ) → (out written : Optio
 AppendsRefusal status advice taken out written =
     (answer : List ℕ) × IsRefusalAnswer status advice taken answer × Appends out written answer
 
--- a prefix of such a refusal was written
+-- a prefix was written of a refusal with this status, this advice and so many steps taken
 abbrev pub AppendsRefusalPart : (status advice taken : ℕ) → (out written : Option (List ℕ))
     → Type 0
 AppendsRefusalPart status advice taken out written =
@@ -137,6 +140,7 @@ refusal_from taken [] = None
 refusal_from taken (reply ∷ replies) =
     if status_byte reply == 0 then refusal_from (taken + 1) replies else Some (taken, reply)
 
+-- the first of some replies that refuses, and how many are before it; none if no reply refuses
 abbrev pub first_refusal : List Reply → Option (ℕ × Reply)
 first_refusal replies = refusal_from 0 replies
 
@@ -150,11 +154,12 @@ IsAnswerWith payload replies has_writer sync_failed answer = elim (first_refusal
   | None ↦ answer ≡ frame_bytes (0 ∷ payload)
 ]
 
--- the error of a reply, if it has one; and the first error among some replies
+-- the error of a reply, if it has one
 abbrev pub reply_error : Reply → Option Error
 reply_error (Fault error) = Some error
 reply_error reply = None
 
+-- the first error among some replies, if one has any
 abbrev pub fault_in : List Reply → Option Error
 fault_in [] = None
 fault_in (reply ∷ replies) = elim (reply_error reply) [

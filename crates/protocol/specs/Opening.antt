@@ -22,7 +22,7 @@ use Rattle.protocol.specs.Request.{frame_bytes, number_bytes}
 
 -- ---- what a client begins with
 
--- the byte of version 1
+-- the byte with which a client of version 1 begins, and by which an answer names it
 abbrev pub version_byte : ℕ
 version_byte = 1
 
@@ -34,7 +34,7 @@ offer_byte = 2
 abbrev pub offer_bytes : List ℕ → List ℕ
 offer_bytes versions = offer_byte ∷ length versions ∷ versions
 
--- whether a version is one of these
+-- whether this version is one of those that an offer has
 abbrev pub offers : List ℕ → ℕ → Bool
 offers versions version = list_any (λ other. other == version) versions
 
@@ -43,7 +43,7 @@ abbrev pub highest_known : List ℕ → Option ProtocolVersion
 highest_known versions =
     if offers versions 2 then Some Two else if offers versions 1 then Some One else None
 
--- an offer that ends before all its versions
+-- these bytes are an offer that ends before all its versions
 abbrev pub IsCutOffer : List ℕ → Type 0
 IsCutOffer bytes =
     (bytes ≡ offer_byte ∷ [])
@@ -61,7 +61,8 @@ ReadsVersions input rest (Err (read.Malformed flaw)) =
 ReadsVersions input rest (Err read.Failed) = Unit {0}
 ReadsVersions input rest (Err read.OutOfMemory) = Unit {0}
 
--- what the input begins with was read
+-- what the input begins with was read, by the answer: nothing, version 1, an offer, or another
+-- byte; or it is a cut offer, or the input failed
 abbrev pub ReadsOpening : Option (List ℕ) → Option (List ℕ) → Result Opening ReadError → Type 0
 ReadsOpening input rest (Ok End) = IsAtEnd input
 ReadsOpening input rest (Ok Single) = Consumes input rest (version_byte ∷ [])
@@ -121,9 +122,9 @@ hello_bytes setting checksum set_aside size cut =
     ∷ flat_map number_bytes (hello_numbers setting size cut) ++ text_bytes checksum
     ++ text_bytes set_aside)
 
--- what a client begins with was answered, if it is an offer; the result is the version to go on
--- with, or none if the input has no byte, or why the session stops. If the output failed, a prefix
--- of the answer was written
+-- what a client begins with was answered, if it is an offer, with the version to go on with, or
+-- with why there is none. The result is that version, or none if the input has no byte, or why the
+-- session stops. If the output failed, a prefix of the answer was written.
 abbrev pub TellsOpening : Opening → (hello : List ℕ) → (out written : Option (List ℕ))
     → Result (Option ProtocolVersion) Stop → Type 0
 TellsOpening opening hello out written (Ok None) = (opening ≡ End) × (written ≡ out)

@@ -35,7 +35,7 @@ number_bytes n = to_le_bytes w64 n
 unfoldable pub length_bytes : ℕ → List ℕ
 length_bytes n = to_le_bytes w32 n
 
--- bytes with their length in front
+-- a frame: bytes with their length in front
 abbrev pub frame_bytes : List ℕ → List ℕ
 frame_bytes bytes = length_bytes (length bytes) ++ bytes
 
@@ -69,7 +69,7 @@ kind_of CountOpen = 26
 kind_of Close = 16
 kind_of _ = 0
 
--- what is written after the kind
+-- what is written of a request after its kind
 abbrev pub fields_of : Request → List ℕ
 fields_of (Step (Append bytes)) = bytes.items
 fields_of (Step (WaitSync name)) = number_bytes name
@@ -88,11 +88,11 @@ fields_of (Step (DropSnapshot index)) = number_bytes index
 fields_of (Step (DropReplay index)) = number_bytes index
 fields_of _ = []
 
--- a request as it is written
+-- a request as it is written: its kind and its fields, in a frame
 abbrev pub request_bytes : Request → List ℕ
 request_bytes request = frame_bytes (kind_of request ∷ fields_of request)
 
--- a number of 64 bits
+-- a number of 64 bits: below 2 ^ 64
 abbrev pub IsNumber : ℕ → Type 0
 IsNumber n = n < 2 ^ 64
 
@@ -134,18 +134,18 @@ CanBeAsked Flush = Unit {0}
 CanBeAsked CountOpen = Unit {0}
 CanBeAsked Close = Unit {0}
 
--- the greatest kind of a version
+-- the greatest kind of a request of a version: 16 of version 1, and 26 of version 2
 abbrev pub last_kind : Version → ℕ
 last_kind One = 16
 last_kind Two = 26
 
--- a request of this version
+-- a request of this version of the protocol, which a client may ask for
 abbrev pub IsRequest : Version → Request → Type 0
 IsRequest version request = CanBeAsked request × (kind_of request ≤ last_kind version)
 
 -- ---- kinds
 
--- whether this kind is among these
+-- whether this number of a kind is among these
 abbrev pub has_kind : List ℕ → ℕ → Bool
 has_kind kinds kind = list_any (λ k. kind == k) kinds
 
@@ -187,7 +187,7 @@ abbrev pub EndsInside : Version → (n : ℕ) → List ℕ → Type 0
 EndsInside version n [] = 0 < n
 EndsInside version n (kind ∷ fields) = (length fields + 1 < n) × TakesLength version kind n
 
--- the version has no such kind
+-- the version has no request of this kind
 abbrev pub IsNoKind : Version → ℕ → Type 0
 IsNoKind version kind =
     (last_kind version < kind) ⊎ ((takes_bytes kind ≡ false) × (field_count kind ≡ None))
@@ -196,7 +196,8 @@ IsNoKind version kind =
 abbrev pub asks_bytes : ℕ → Bool
 asks_bytes kind = has_kind (6 ∷ 7 ∷ 11 ∷ 14 ∷ []) kind
 
--- what is wrong with fields that have the right length
+-- what is wrong with fields that have the right length: they ask for more bytes than an answer
+-- holds, or for a replay without a buffer
 abbrev pub FieldsHave : Flaw → (kind : ℕ) → List ℕ → Type 0
 FieldsHave LongRead kind fields =
     (asks_bytes kind ≡ true) × (front : List ℕ) × (len : ℕ) × (fields ≡ front ++ number_bytes len)
@@ -204,13 +205,14 @@ FieldsHave LongRead kind fields =
 FieldsHave NoBuffer kind fields = (kind ≡ 12) × (fields ≡ number_bytes 0)
 FieldsHave _ kind fields = ⊥
 
--- a whole frame of the right length, in whose fields this is wrong
+-- in the fields of a whole frame of the right length this is wrong
 abbrev pub FrameHas : Flaw → List ℕ → Type 0
 FrameHas flaw bytes =
     (kind : ℕ) × (fields : List ℕ) × (rest : List ℕ) × (bytes ≡ frame_bytes (kind ∷ fields) ++ rest)
     × HasFields kind fields × FieldsHave flaw kind fields
 
--- what is wrong with bytes, by what they are; no two of these are true of the same bytes
+-- what is wrong with bytes that are no request, by cases on the flaw; no two are true of the same
+-- bytes
 abbrev pub HasFlaw : Version → Flaw → List ℕ → Type 0
 HasFlaw version Cut bytes =
     (length bytes < 4)

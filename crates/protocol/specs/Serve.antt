@@ -55,11 +55,11 @@ use Rattle.protocol.specs.Request.{number_bytes}
 use Rattle.protocol.specs.Together.{tells_records, tells_ranges, record_bytes, record_lengths}
 use Rattle.protocol.specs.Together.{ranges_in, record_starts}
 
--- requests, one after another
+-- some requests as they are written, one after another
 abbrev pub requests_bytes : List Request → List ℕ
 requests_bytes requests = flat_map request_bytes requests
 
--- the logical bytes of a page
+-- how many logical bytes a page has by this setting
 abbrev pub page_bytes : Setting → ℕ
 page_bytes setting = non_zero_u16_get setting.page_size
 
@@ -83,7 +83,7 @@ changes step = false
 
 -- ---- the steps of a request
 
--- what follows an append of records
+-- the steps that follow an append of records: none, a sync, or the start of one
 abbrev pub steps_then : Then → List Step
 steps_then follow.Nothing = []
 steps_then follow.Sync = Sync ∷ []
@@ -117,7 +117,7 @@ asks_change request = false
 
 -- ---- answers of version 2
 
--- the payload of the last of these replies
+-- what the last of these replies gives
 abbrev pub last_payload : List Reply → List ℕ
 last_payload [] = []
 last_payload (reply ∷ []) = reply_payload reply
@@ -129,14 +129,18 @@ abbrev pub starts_payload : List ℕ → Reply → List ℕ
 starts_payload lengths (At at) = flat_map number_bytes (record_starts at lengths)
 starts_payload lengths reply = []
 
+-- what starting a sync answered, as bytes; no bytes if there is no answer
 abbrev pub started_of : Option StartedSync → List ℕ
 started_of None = []
 started_of (Some started) = started_bytes started
 
+-- what starting a sync answered, as bytes, if these replies are that one alone; no bytes otherwise
 abbrev pub started_payload : List Reply → List ℕ
 started_payload (Started started ∷ []) = started_bytes started
 started_payload replies = []
 
+-- what an append of records gives: where each begins, and what starting a sync answered, by the
+-- replies
 abbrev pub records_payload : List ℕ → List Reply → List ℕ
 records_payload lengths [] = []
 records_payload lengths (reply ∷ replies) =
@@ -168,9 +172,9 @@ can_be_read (Records fields next) = tells_records fields.items
 can_be_read (Ranges fields) = tells_ranges fields.items
 can_be_read request = true
 
--- the answer to a request with these replies, by whether a sync of the file has failed: in version
--- 1 that to its only reply; in version 2 the first refusal or what the request gives, or if its
--- bytes couldn't be read, a refusal for that
+-- the answer to a request with these replies, by the version and whether a sync of the file has
+-- failed. In version 1 it is that to the only reply. In version 2 it is the first refusal, or what
+-- the request gives; or, if its bytes couldn't be read, a refusal for that.
 abbrev pub IsAnswer : ProtocolVersion → Request → List Reply → SessionState → (sync_failed : Bool)
     → List ℕ → Type 0
 IsAnswer One request replies now sync_failed answer =
@@ -311,7 +315,7 @@ abbrev pub TellsFlaw : ProtocolVersion → Flaw → (told written : Option (List
 TellsFlaw One flaw told written = Appends told written []
 TellsFlaw Two flaw told written = AppendsRefusal (flaw_status flaw) 2 0 told written
 
--- a prefix of such a refusal was written
+-- in version 2 a prefix was written of the refusal of bytes that are no request
 abbrev pub TellsFlawPart : ProtocolVersion → Flaw → (told written : Option (List ℕ)) → Type 0
 TellsFlawPart One flaw told written = ⊥
 TellsFlawPart Two flaw told written = AppendsRefusalPart (flaw_status flaw) 2 0 told written
@@ -453,6 +457,7 @@ IsNotBegun sum setting old new (Refused error) = HasAttempted sum setting old ne
 IsNotBegun sum setting old new (WouldCut cut) = WouldCutMore sum setting old new cut
 IsNotBegun sum setting old new other = ⊥
 
+-- a session is to begin at a recovery, by the answer: `HasBegun`, or `IsNotBegun`
 abbrev pub RecoversSession : (List ℕ → ℕ) → Setting → Life → Life
     → Result (SessionState × CacheState) Stop → Type 0
 RecoversSession sum setting old new (Ok begun) = HasBegun sum setting old new begun.0
@@ -535,6 +540,7 @@ pub record Named : Type 0 where
   pub checksum : List ℕ
   pub set_aside : List ℕ
 
+-- the names in the hello: of the checksum, and of the copy that was made
 abbrev pub names_of : (checksum set_aside : List ℕ) → Named
 names_of checksum set_aside = record { checksum = checksum; set_aside = set_aside }
 
@@ -584,7 +590,8 @@ StopsGreeted sum setting old new sync_failed input out written =
     × ((written ≡ greeting)
     ⊎ (IfSome input IsCutOffer × TellsFlawPart Two Cut greeting written))
 
--- a greeted session was served the requests after its opening, in its version, and it ended so
+-- a greeted session was served what stands in the input after its opening, in its version, and it
+-- ended so
 pub record ServedAfter (sum : List ℕ → ℕ) (setting : Setting) (named : Named) (old new : Life)
     (sync_failed : Bool) (input rest out written : Option (List ℕ))
     (result : Result (Unit {0}) Stop) : Type 0 where
@@ -600,7 +607,10 @@ pub record ServedAfter (sum : List ℕ → ℕ) (setting : Setting) (named : Nam
   pub serves :
       Serves sum setting version was now between new sync_failed after rest told written result
 
--- how a whole input was served over a file, by how that ended
+-- how a whole input was served over a file, by how that ended. A recovery within the setting began
+-- a session, what the client begins with was answered, and the requests were served, each by its
+-- own steps, in one run whose promise holds. If more would go in the recovery than the setting
+-- allows, the blob was only looked at, and nothing was read or written.
 abbrev pub ServesFile : (List ℕ → ℕ) → Setting → Named → Life → Life → (sync_failed : Bool)
     → (input rest out written : Option (List ℕ)) → Result (Unit {0}) Stop → Type 0
 ServesFile sum setting named old new sync_failed input rest out written (Ok done) =

@@ -25,7 +25,7 @@ abbrev pub stop_for : Refusal → Stop
 stop_for (refusal.WouldCut cut) = WouldCut cut
 stop_for (refusal.Failed error) = Refused error
 
--- the exit status
+-- the exit status of a program that stops for this reason
 abbrev pub status_of : Stop → ℕ
 status_of (Malformed number flaw) = 2
 status_of (Version byte) = 2

@@ -39,7 +39,7 @@ record_starts at (length ∷ lengths) = at ∷ record_starts (at + length) lengt
 
 -- ---- ranges: the offset and the length of each, eight bytes each
 
--- the ranges that bytes encode
+-- the ranges that bytes encode, an offset and a length of eight bytes each
 abbrev pub ranges_in : List ℕ → List (ℕ × ℕ)
 ranges_in (a ∷ b ∷ c ∷ d ∷ e ∷ f ∷ g ∷ h ∷ i ∷ j ∷ k ∷ l ∷ m ∷ n ∷ o ∷ p ∷ rest) = (
   from_le_bytes w64 (a ∷ b ∷ c ∷ d ∷ e ∷ f ∷ g ∷ h ∷ []),

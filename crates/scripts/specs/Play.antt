@@ -6,11 +6,11 @@ use Rattle.scripts.specs.declared.stop.Stop.TheVariants.{Unreadable, Failed}
 use Rattle.scripts.specs.declared.script.Script.{Script}
 use Rattle.scripts.specs.Script.{ReadsScript, lines_of}
 
--- these bytes are a script
+-- these bytes are a script, as `ReadsScript` reads their lines
 abbrev pub IsScript : List ℕ → Type 0
 IsScript bytes = (read : Script) × ReadsScript (lines_of bytes) (Ok read)
 
--- these bytes are no script: the line of this number can't be read
+-- these bytes are no script, since their line of this number can't be read
 abbrev pub IsNoScript : ℕ → List ℕ → Type 0
 IsNoScript number bytes = ReadsScript (lines_of bytes) (Err (Unreadable number))
 

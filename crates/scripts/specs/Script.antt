@@ -49,7 +49,7 @@ abbrev pub hex_refused : FromHexError → ReadError
 hex_refused hex.OutOfMemory = OutOfMemory
 hex_refused _ = Unreadable
 
--- a number of 64 bits
+-- a number of 64 bits: below 2 ^ 64
 abbrev pub IsU64 : ℕ → Type 0
 IsU64 n = n < 2 ^ 64
 
@@ -57,15 +57,15 @@ IsU64 n = n < 2 ^ 64
 abbrev pub HasLead : List ℕ → Type 0
 HasLead word = (slice_index word 0 ≡ 43) ⊎ ((slice_index word 0 ≡ 48) × (1 < length word))
 
--- each of these numbers is a byte
+-- each of these numbers is a byte: below 256
 abbrev pub AreByteValues : List ℕ → Type 0
 AreByteValues xs = (i : ℕ) → slice_index xs i < 256
 
--- a flag as a digit
+-- a flag as a digit, 0 or 1
 abbrev pub flag_digit : Bool → ℕ
 flag_digit flag = if flag then 49 else 48
 
--- flags as digits
+-- flags as digits, `-` if there is none
 abbrev pub flags_text : List Bool → List ℕ
 flags_text [] = codes "-"
 flags_text (flag ∷ flags) = map flag_digit (flag ∷ flags)
@@ -74,22 +74,22 @@ flags_text (flag ∷ flags) = map flag_digit (flag ∷ flags)
 abbrev pub parts_of : ℕ → List ℕ → List (List ℕ)
 parts_of at bytes = slice_split (λ byte. byte == at) bytes
 
--- the words of a line, split at each space
+-- the words of a line, split at each space, so that two spaces have an empty word between them
 abbrev pub words_of : List ℕ → List (List ℕ)
 words_of line = parts_of 32 line
 
--- the input without the line feed at its end, if there is one
+-- the input without the line feed at its end, if there is one; only one goes
 abbrev pub without_last_feed : List ℕ → List ℕ
 without_last_feed input =
     if starts_with nat_eq (drop (length input - 1) input) (10 ∷ [])
     then take (length input - 1) input
     else input
 
--- the lines of an input: each ends in a line feed, which the last may lack
+-- the lines of an input, each ended by a line feed, which the last may lack
 abbrev pub lines_of : List ℕ → List (List ℕ)
 lines_of input = parts_of 10 (without_last_feed input)
 
--- a checksum function's name
+-- the name of a checksum function
 abbrev pub sum_word : SumName → List ℕ
 sum_word Add = codes "add"
 sum_word Const = codes "const"
@@ -102,17 +102,17 @@ settings_words start =
     decimal (non_zero_u16_get start.page_size) ∷ decimal start.capacity
     ∷ decimal (non_zero_usize_get start.pages) ∷ sum_word start.sum ∷ []
 
--- the words of a script's first line, where the script is of a session
+-- the words of the first line of a script of a session
 abbrev pub start_words : Start → List (List ℕ)
 start_words start = codes "start" ∷ settings_words start
 
--- the words of a script's first line, if the script is of items
+-- the words of the first line of a script of items
 abbrev pub item_start_words : ItemStart → List (List ℕ)
 item_start_words start =
     codes "start-items" ∷ settings_words start.settings
     ++ decimal (non_zero_usize_get start.size) ∷ []
 
--- the words of a first line
+-- the words of a first line, of either form
 abbrev pub first_words : First → List (List ℕ)
 first_words (first.Session start) = start_words start
 first_words (first.Items start) = item_start_words start
@@ -121,11 +121,11 @@ first_words (first.Items start) = item_start_words start
 abbrev pub range_word : ℕ × ℕ → List ℕ
 range_word range = decimal range.0 ++ 58 ∷ decimal range.1
 
--- ranges as words
+-- ranges as words, each an offset, a colon and a length
 abbrev pub ranges_words : List (ℕ × ℕ) → List (List ℕ)
 ranges_words ranges = map range_word ranges
 
--- the words of a step; no line of a script drops a snapshot or a replay
+-- the words of a step of a session; no line of a script drops a snapshot or a replay
 abbrev pub step_words : step.Step → List (List ℕ)
 step_words (Append bytes) = codes "append" ∷ hex_of bytes.items ∷ []
 step_words (Owned bytes) = codes "owned" ∷ hex_of bytes.items ∷ []
@@ -165,7 +165,7 @@ line_words (Crash keep) = codes "crash" ∷ flags_text keep.items ∷ []
 line_words Recover = codes "recover" ∷ []
 line_words Dump = codes "dump" ∷ []
 
--- the words of a step of items
+-- the words of a step of a script of items
 abbrev pub item_step_words : ItemStep → List (List ℕ)
 item_step_words (item.Push bytes) = codes "push" ∷ hex_of bytes.items ∷ []
 item_step_words (item.Get i) = codes "get" ∷ decimal i ∷ []
@@ -180,7 +180,7 @@ item_line_words (line.Crash keep) = codes "crash" ∷ flags_text keep.items ∷ 
 item_line_words line.Recover = codes "recover" ∷ []
 item_line_words line.Dump = codes "dump" ∷ []
 
--- the numbers of a range are of 64 bits
+-- the offset and the length of a range are each of 64 bits, though their sum may not be
 abbrev pub IsRangeOfU64 : ℕ × ℕ → Type 0
 IsRangeOfU64 range = IsU64 range.0 × IsU64 range.1
 
@@ -188,11 +188,11 @@ IsRangeOfU64 range = IsU64 range.0 × IsU64 range.1
 abbrev pub AreRangesOfU64 : List (ℕ × ℕ) → Type 0
 AreRangesOfU64 ranges = (0 < length ranges) × All IsRangeOfU64 ranges
 
--- a buffer's size in bytes
+-- a buffer's size in bytes, from 1 on
 abbrev pub IsBufferSize : ℕ → Type 0
 IsBufferSize n = (0 < n) × IsU64 n
 
--- a device call's number
+-- the number of a device call, from 1 on
 abbrev pub IsCallNumber : ℕ → Type 0
 IsCallNumber n = (0 < n) × IsU64 n
 
@@ -227,11 +227,11 @@ IsItemLine (line.Step (item.Get i)) = IsU64 i
 IsItemLine (line.Fail number) = IsCallNumber (non_zero_u64_get number)
 IsItemLine _ = Unit {0}
 
--- a size of pages in bytes
+-- a size of pages in logical bytes, from 1 to 65,535
 abbrev pub IsPageSize : ℕ → Type 0
 IsPageSize n = (0 < n) × (n < 2 ^ 16)
 
--- a number of pages for the cache
+-- a number of pages for the cache, from 1 to 4,096
 abbrev pub IsCacheSize : ℕ → Type 0
 IsCacheSize n = (0 < n) × (n ≤ 4096)
 
@@ -241,11 +241,11 @@ IsStart start =
     IsPageSize (non_zero_u16_get start.page_size) × IsU64 start.capacity
     × IsCacheSize (non_zero_usize_get start.pages)
 
--- an item's size in bytes
+-- an item's size in bytes, from 1 to 65,535, which may be more than a page has
 abbrev pub IsItemSize : ℕ → Type 0
 IsItemSize n = (0 < n) × (n ≤ 65535)
 
--- the numbers of a first line are in range, where the script is of items
+-- the numbers of the first line of a script of items are in range
 abbrev pub IsItemStart : ItemStart → Type 0
 IsItemStart start = IsStart start.settings × IsItemSize (non_zero_usize_get start.size)
 
@@ -269,7 +269,7 @@ IsReadable of_items zero line =
 IsReadable of_session (suc index) line = (read : Line) × (words_of line ≡ line_words read)
 IsReadable of_items (suc index) line = (read : ItemLine) × (words_of line ≡ item_line_words read)
 
--- no script of this form has this line at this index; at index 0, no script of either form has it
+-- no script of this form has this line at this index. At index 0, no script of either form has it.
 abbrev pub IsUnreadable : Form → ℕ → List ℕ → Type 0
 IsUnreadable form zero line = (first : First) → IsFirst first → words_of line ≢ first_words first
 IsUnreadable of_session (suc index) line =

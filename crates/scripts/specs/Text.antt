@@ -17,7 +17,7 @@ use Rattle.items.specs.declared.run.ItemReply.TheVariants as item
 abbrev pub hex_digits : ℕ → List ℕ
 hex_digits byte = digit_glyph false (byte / 16) ∷ digit_glyph false (byte % 16) ∷ []
 
--- bytes in hexadecimal
+-- bytes in hexadecimal, `-` if there is none
 abbrev pub hex_of : List ℕ → List ℕ
 hex_of [] = codes "-"
 hex_of (byte ∷ bytes) = flat_map hex_digits (byte ∷ bytes)

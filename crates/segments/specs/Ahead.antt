@@ -25,8 +25,8 @@ abbrev pub HasDigests : (d : List ℕ → List ℕ) → OwnedState → SegmentDi
 HasDigests d s x = IfSome s.journal (λ w.
     IsDigestedAhead d s.page_size (content w s.life.present.readable) x)
 
--- pages of a journal's content were read, by the answer: at `Ok` no device call failed; an error is
--- that of a read, or memory was refused
+-- pages of a journal's content were read, by the answer: at Ok no device call failed; an error is
+-- that of a read, or memory was refused. Without a journal nothing was done.
 abbrev pub PagesGo : OwnedState → OwnedState → Result (Unit {0}) Error → Type 0
 PagesGo s t (Ok _) = HasJournal s.journal (λ w. NoneFailed s.life.present t.life.present)
 PagesGo s t (Err (errors.Layer e)) =
@@ -34,7 +34,7 @@ PagesGo s t (Err (errors.Layer e)) =
 PagesGo s t (Err errors.Closed) = (s.journal ≡ None) × (t ≡ s)
 PagesGo s t (Err _) = ⊥
 
--- so many pages more are digested at most, and those before are still
+-- the pages that were digested ahead still are, and at most so many more
 pub record IsFurther (most : ℕ) (s t : OwnedState) : Type 0 where
   pub further : s.digested ≤ t.digested
   pub few : t.digested ≤ s.digested + most

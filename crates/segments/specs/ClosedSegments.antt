@@ -40,35 +40,38 @@ IsReaderOf sum own P number f (FromPages p) =
 abbrev pub IsSegmentReader : (sum own : List ℕ → ℕ) → ClosedSegmentState → Type 0
 IsSegmentReader sum own s = IsReaderOf sum own s.page_size s.number s.kept.fingerprint s.from
 
--- a frame can't be read: of the pages as `SegmentRefuses` has it; or memory was refused
+-- why a reader can't read a frame: of a segment that is read by its pages as `SegmentRefuses` has
+-- it; or memory was refused
 abbrev pub ReaderFails : (d : List ℕ → List ℕ) → (offset : ℕ) → (from to : ReadFrom) → Error
     → Type 0
 ReaderFails d offset (FromPages p) (FromPages q) e = SegmentRefuses d offset p q e
 ReaderFails d offset (FromMemory l) (FromMemory m) (errors.Layer e) = Unit {0}
 ReaderFails d offset from to e = ⊥
 
--- a read of the frame at an offset, by its answer
+-- a read of the frame at an offset by a reader, by its answer
 abbrev pub ReaderAnswers : (sum own : List ℕ → ℕ) → (d : List ℕ → List ℕ) → (offset : ℕ)
     → (s t : ClosedSegmentState) → Result (Option Found) Error → Type 0
 ReaderAnswers sum own d offset s t (Ok found) =
     IsReadOfClosed sum own d s.page_size s.kept offset found
 ReaderAnswers sum own d offset s t (Err e) = ReaderFails d offset s.from t.from e
 
--- where a read of a segment with marks found a frame, one begins; or the marks can't be used
+-- if a reader of a segment with marks found a frame, one begins there; or the marks can't be used
 abbrev pub ReaderBegins : (d : List ℕ → List ℕ) → (offset : ℕ) → (from to : ReadFrom)
     → Result (Option Found) Error → Type 0
 ReaderBegins d offset (FromMemory l) to result = Unit {0}
 ReaderBegins d offset (FromPages p) (FromMemory m) result = ⊥
 ReaderBegins d offset (FromPages p) (FromPages q) result = FoundBegins d offset p q result
 
--- a read leaves a reader of the same segment
+-- a read by a reader: its answer is as `ReaderAnswers` has it, and the reader is of the same
+-- segment then
 pub record ClosedReadGoes (sum own : List ℕ → ℕ) (d : List ℕ → List ℕ) (offset : ℕ)
     (s t : ClosedSegmentState) (result : Result (Option Found) Error) : Type 0 where
   pub same : t ≡ record s { from = t.from }
   pub answers : ReaderAnswers sum own d offset s t result
   pub begins : ReaderBegins d offset s.from t.from result
 
--- where frame n of a segment begins, by the answer: of one that is in memory no marks were kept
+-- where frame n of a segment begins, by the answer of a reader. A segment that is in memory has no
+-- marks.
 abbrev pub ReaderNthAnswers : (d : List ℕ → List ℕ) → (n number : ℕ) → (from to : ReadFrom)
     → Result (Option ℕ) Error → Type 0
 ReaderNthAnswers d n number (FromPages p) (FromPages q) result = SegmentNthGoes d n p q result
@@ -76,13 +79,14 @@ ReaderNthAnswers d n number (FromMemory l) (FromMemory m) result =
     (result ≡ Err (errors.Unmarked number)) × (m ≡ l)
 ReaderNthAnswers d n number from to result = ⊥
 
--- a search leaves a reader of the same segment
+-- a search by a reader: its answer is as `ReaderNthAnswers` has it, and the reader is of the same
+-- segment then
 pub record ReaderNthGoes (d : List ℕ → List ℕ) (n : ℕ) (s t : ClosedSegmentState)
     (result : Result (Option ℕ) Error) : Type 0 where
   pub same : t ≡ record s { from = t.from }
   pub answers : ReaderNthAnswers d n s.number s.from t.from result
 
--- a page of a segment is passed, by the answer: of one that is in memory no marks were kept
+-- a reader passes a page of a segment, by the answer. A segment that is in memory has no marks.
 abbrev pub ReaderPageAnswers : (d : List ℕ → List ℕ) → (offset number : ℕ) → (from to : ReadFrom)
     → Result PassedPage Error → Type 0
 ReaderPageAnswers d offset number (FromPages p) (FromPages q) result =
@@ -91,14 +95,15 @@ ReaderPageAnswers d offset number (FromMemory l) (FromMemory m) result =
     (result ≡ Err (errors.Unmarked number)) × (m ≡ l)
 ReaderPageAnswers d offset number from to result = ⊥
 
--- passing a page leaves a reader of the same segment
+-- a reader passes a page: the answer is as `ReaderPageAnswers` has it, and the reader is of the
+-- same segment then
 pub record ReaderPageGoes (d : List ℕ → List ℕ) (offset : ℕ) (s t : ClosedSegmentState)
     (result : Result PassedPage Error) : Type 0 where
   pub same : t ≡ record s { from = t.from }
   pub answers : ReaderPageAnswers d offset s.number s.from t.from result
 
--- damage is passed, by the answer: the offset moves behind the page. After an error it is where it
--- was
+-- a reader passes damage, by the answer: the offset moves behind the page; after an error it is
+-- where it was
 abbrev pub ReaderPassGoes : (d : List ℕ → List ℕ) → (old new : ℕ) → (s t : ClosedSegmentState)
     → Result Passed Error → Type 0
 ReaderPassGoes d old new s t (Ok passed) = (page : PassedPage)
@@ -111,15 +116,15 @@ abbrev pub IsDamagedAtOpening : (d : List ℕ → List ℕ) → ℕ → Fingerpr
 IsDamagedAtOpening d P (Whole kept) = Unit {0}
 IsDamagedAtOpening d P (Paged kept) = HasDamagedFile d P kept.seal
 
--- the reader of the segment of this number: it has what the log lists
+-- the reader of the segment of this number: it has what the log lists of it
 pub record IsReaderIn (s : LogState) (segment : ℕ) (r : ClosedSegmentState) : Type 0 where
   pub number : r.number ≡ segment
   pub listed : closed_at s.listing segment ≡ Some r.kept
   pub page_size : r.page_size ≡ s.page_size
 
--- a reader of a segment is to be opened, by the answer. It is refused if none is closed that has
--- this number, or it isn't readable, or the folder refuses a file, or the manifest can't be right
--- about its length, or the device or memory failed
+-- a reader of a segment is to be opened, by the answer. It is refused if no closed segment has this
+-- number, or the segment isn't readable, or the folder refuses a file, or the manifest can't be
+-- right about its length, or the device or memory failed.
 abbrev pub OpenReaderGoes : (d : List ℕ → List ℕ) → LogState → (segment : ℕ)
     → Result ClosedSegmentState Error → Type 0
 OpenReaderGoes d s segment (Ok r) = IsReaderIn s segment r

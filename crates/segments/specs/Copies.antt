@@ -10,13 +10,13 @@ use Rattle.segments.specs.declared.known.Known.{Known}
 abbrev pub copy_body : Known → (manifest : List ℕ) → List ℕ
 copy_body known manifest = to_be_bytes w64 known.segment ++ to_be_bytes w64 known.len ++ manifest
 
--- a copy as bytes
+-- a copy of the manifest as bytes: its CRC-32C, and behind it `copy_body`
 abbrev pub copy_bytes : Known → (manifest : List ℕ) → List ℕ
 copy_bytes known manifest =
     to_be_bytes w32 (crc32c (copy_body known manifest)) ++ copy_body known manifest
 
--- what is known by the bytes of a copy, of which the manifest's stand from the twentieth on; none
--- where the copy isn't whole
+-- what is known by the bytes of a copy, of which those of the manifest stand from the twentieth on;
+-- none if the copy isn't whole by its checksum
 unfoldable pub known_in : List ℕ → Option Known
 known_in bytes =
     if nat_lt (length bytes) 20 then None

@@ -30,8 +30,8 @@ records_by sum own P held file None = None
 records_by sum own P held file (Some l) = Some (closed_records own held l.first l.closed
     ++ records own (text sum P (file (open_in l))))
 
--- the records of a log whose manifest holds these bytes, and whose files hold those; none where the
--- manifest can't be read
+-- the records of a log whose manifest holds these bytes, and whose files hold those; none if they
+-- can't be read
 abbrev pub records_left : (sum own : List ℕ → ℕ) → ℕ → (held file : ℕ → List ℕ) → List ℕ
     → Option (List (List ℕ))
 records_left sum own P held file manifest =
@@ -42,13 +42,13 @@ abbrev pub BeginWith : ℕ → List (List ℕ) → Option (List (List ℕ)) → 
 BeginWith n all None = ⊥
 BeginWith n all (Some rs) = (n ≤ length rs) × (take n rs ≡ take n all)
 
--- there are records, and they are the first of `all`
+-- there are records, and they are a prefix of `all`
 abbrev pub AreFirstOf : List (List ℕ) → Option (List (List ℕ)) → Type 0
 AreFirstOf all None = ⊥
 AreFirstOf all (Some rs) = IsPrefix rs all
 
 -- whatever a crash leaves of the manifest's disk and of the segments' disks, the first n of these
--- records come back, if no checksum slot of the manifest verifies by chance
+-- records come back, if no checksum slot of the manifest verifies by chance, that is by a collision
 abbrev pub LogKept : (sum own : List ℕ → ℕ) → ℕ → (held : ℕ → List ℕ) → ℕ → List (List ℕ)
     → Disk → (ℕ → Disk) → Type 0
 LogKept sum own P held n all m d =
@@ -56,8 +56,9 @@ LogKept sum own P held n all m d =
     → (file : ℕ → List ℕ) → ((j : ℕ) → IsImage (d j) (file j))
     → BeginWith n all (records_left sum own P held file manifest)
 
--- whatever a crash leaves of these disks, only the first of these records come back, chance aside:
--- if no checksum slot of the manifest or of a segment verifies by chance
+-- whatever a crash leaves of the manifest's disk and of the segments' disks, what comes back is a
+-- prefix of these records, if no checksum slot of the manifest or of a segment verifies by chance,
+-- that is by a collision
 abbrev pub LogOnly : (sum own : List ℕ → ℕ) → ℕ → (held : ℕ → List ℕ) → List (List ℕ)
     → Disk → (ℕ → Disk) → Type 0
 LogOnly sum own P held all m d =
@@ -66,9 +67,9 @@ LogOnly sum own P held all m d =
     → ((j : ℕ) → IsChanceFree sum P (d j) (file j))
     → AreFirstOf all (records_left sum own P held file manifest)
 
--- at each moment of a stretch of the open segment's life: the records of the closed segments come
--- back, and what was committed of the open one; and chance aside only the first of the log's
--- records and of these more
+-- at each moment of a stretch of the open segment's life the records of the closed segments come
+-- back, and what was committed of the open one; and if no checksum collides, what comes back is a
+-- prefix of the log's records and these more
 pub record KeepsLog (sum own : List ℕ → ℕ) (held : ℕ → List ℕ) (s : LogState)
     (more : List (List ℕ)) (old new : Life) : Type 0 where
   pub kept : (content : List ℕ) (n : ℕ) → Commits sum own s.page_size content n old.present
@@ -78,14 +79,15 @@ pub record KeepsLog (sum own : List ℕ → ℕ) (held : ℕ → List ℕ) (s : 
   pub only : Through (λ d. LogOnly sum own s.page_size held (log_records own held s ++ more)
       s.manifest.life.present (λ j. d)) old new
 
--- a call of the open segment, whatever it answers
+-- whatever a call of the open segment answers, the log is kept at each moment of it, as `KeepsLog`
+-- has it
 abbrev pub CurrentSurvives : (sum own : List ℕ → ℕ) → List (List ℕ) → LogState → LogState → Type 0
 CurrentSurvives sum own more s t = IfSome s.manifest.journal (λ m. IfSome s.current.journal (λ w.
     (held : ℕ → List ℕ) → KeepsLog sum own held s more s.current.life t.current.life))
 
--- as the manifest gets the entry that segment k is closed, and the next one is open: whatever a
--- crash leaves of the manifest's disk and of the disks of these two segments, chance aside, all of
--- these records come back, or a second preimage of what segment k held is at hand
+-- as the manifest gets the entry that segment k is closed and the next one is open: whatever a
+-- crash leaves of the manifest's disk and of the disks of these two segments, if no checksum
+-- collides, all of these records come back, or a second preimage of what segment k held is at hand
 abbrev pub LogTurned : (sum own : List ℕ → ℕ) → (d : List ℕ → List ℕ) → ℕ
     → (held : ℕ → List ℕ) → List (List ℕ) → (k : ℕ) → (last next : Disk) → Disk → Type 0
 LogTurned sum own d P held all k last next m =
@@ -101,9 +103,9 @@ pub record HasLetGo (d : List ℕ → List ℕ) (s : LogState) (last : Life) (t 
   pub after : List FolderEvent
   pub asked : t.asked ≡ asked_turning d s last ++ after
 
--- a rotation, at each moment: first the open segment is closed, and the folder takes its blob back;
--- then the manifest gets its entry, and that leaves all records as they were. The next segment is
--- the log's open one then
+-- a rotation, at each moment: first the open segment is closed, which keeps the log, and the folder
+-- takes its blob back. Then the manifest gets its entry, which leaves all records as they were. The
+-- next segment is the log's open one then.
 pub record TurnKept (sum own : List ℕ → ℕ) (d : List ℕ → List ℕ) (held : ℕ → List ℕ)
     (s t : LogState) : Type 0 where
   pub last : Life
@@ -124,14 +126,15 @@ IsRotationKept sum own d held s t =
     ((t.manifest ≡ s.manifest) × KeepsLog sum own held s [] s.current.life t.current.life)
     ⊎ TurnKept sum own d held s t
 
--- a rotation, whatever it answers
+-- a rotation, at each moment, whatever it answers: what was committed comes back, as
+-- `IsRotationKept` has it
 abbrev pub RotationSurvives : (sum own : List ℕ → ℕ) → (d : List ℕ → List ℕ) → LogState → LogState
     → Type 0
 RotationSurvives sum own d s t = IfSome s.manifest.journal (λ m. IfSome s.current.journal (λ w.
     (held : ℕ → List ℕ) → IsRotationKept sum own d held s t))
 
--- a rotation, and then an append to the next segment, with this answer: of the log in between holds
--- all that is said of it
+-- a rotation and then an append to the next segment, with this answer: each keeps the log at each
+-- of its moments
 pub record TurnedSurvives (sum own : List ℕ → ℕ) (d : List ℕ → List ℕ) (bytes : List ℕ)
     (s t : LogState) (result : Result Place Error) : Type 0 where
   pub mid : LogState
@@ -154,8 +157,8 @@ AppendSurvives sum own d bytes s t result =
 -- ---- dropping
 
 -- as the manifest gets the entry that this segment is the first one: whatever a crash leaves of the
--- manifest's disk, chance aside, the log has the segments that it had, or those from this one on,
--- which is one of them
+-- manifest's disk, if no checksum collides, the log has the segments that it had, or those from
+-- this one on, which is one of them
 abbrev pub LogDropped : (sum own : List ℕ → ℕ) → ℕ → ListingState → (segment : ℕ) → Disk → Type 0
 LogDropped sum own P l segment m =
     (manifest : List ℕ) → IsImage m manifest → IsChanceFree sum P m manifest
@@ -170,7 +173,7 @@ abbrev pub WasRemoved : ℕ → List FolderEvent → Type 0
 WasRemoved segment [] = ⊥
 WasRemoved segment (e ∷ es) = (e.call ≡ calls.Removes segment) ⊎ WasRemoved segment es
 
--- something is listed, and of the segments from this one on alone
+-- something is listed, and only segments from this one on
 abbrev pub ListsFrom : ℕ → Option ListingState → Type 0
 ListsFrom segment None = ⊥
 ListsFrom segment (Some l) = segment ≤ l.first
@@ -183,7 +186,8 @@ RemovesUnlisted sum own s t = (events : List FolderEvent) → t.asked ≡ s.aske
     → (manifest : List ℕ) → IsImage t.manifest.life.present manifest
     → ListsFrom (segment + 1) (listed_in t.page_size (records own (text sum t.page_size manifest)))
 
--- a drop, at each moment, whatever it answers
+-- a drop, at each moment, whatever it answers: the log has the segments that it had, or those that
+-- stay
 abbrev pub DropSurvives : (sum own : List ℕ → ℕ) → (segment : ℕ) → LogState → LogState → Type 0
 DropSurvives sum own segment s t = IfSome s.manifest.journal (λ m.
     Through (LogDropped sum own s.page_size s.listing segment) s.manifest.life t.manifest.life)
@@ -197,9 +201,9 @@ abbrev pub AsksForLog : (manifest : List ℕ) → ℕ → (segment : List ℕ) �
 AsksForLog manifest number segment old new =
     new ≡ old ++ opening_with calls.OpensManifest manifest ∷ events_for number segment
 
--- the files of a log were opened, of a folder that had been asked for these calls before. The log
--- has what the files of the manifest and of the open segment gave. All of it is committed, and
--- chance aside a crash leaves nothing else
+-- the files of a log were opened, in a folder that had been asked for these calls before. The log
+-- has what the files of the manifest and of the open segment gave. All of it is committed, and a
+-- crash, if no checksum collides, leaves nothing else.
 pub record HasOpenedFiles (sum own : List ℕ → ℕ) (before calls : List FolderEvent) (s : LogState)
     : Type 0 where
   pub manifest : List ℕ
@@ -217,8 +221,8 @@ pub record HasOpenedFiles (sum own : List ℕ → ℕ) (before calls : List Fold
   -- all of the open segment's bytes are known then
   pub known : s.known ≡ owned_size s.current.journal
 
--- the log of a folder was opened, and last a copy of the manifest was to be kept. That an empty
--- manifest got its first entry before is not said
+-- the log of a folder was opened, and last a copy of the manifest was to be kept. Nothing is said
+-- of the first entry that an empty manifest gets before that.
 pub record IsOpenedLog (sum own : List ℕ → ℕ) (before : List FolderEvent) (s : LogState)
     : Type 0 where
   pub calls : List FolderEvent

@@ -19,7 +19,7 @@ abbrev pub keeping_event : (segment len : ℕ) → List ℕ → Bool → FolderE
 keeping_event segment len manifest failed =
     record { call = calls.Keeps segment len; failed = failed; given = manifest; closed = None }
 
--- such a call with the outcome that it answered
+-- that a copy of the manifest was to be kept, with the outcome that it answered
 abbrev pub keeping_outcome : {T E : Type 0} → (segment len : ℕ) → List ℕ → Result T E → FolderEvent
 keeping_outcome segment len manifest (Ok _) = keeping_event segment len manifest false
 keeping_outcome segment len manifest (Err _) = keeping_event segment len manifest true
@@ -34,7 +34,7 @@ abbrev pub writing_event : (segment : ℕ) → List ℕ → Bool → FolderEvent
 writing_event segment bytes failed =
     record { call = calls.WritesList segment; failed = failed; given = bytes; closed = None }
 
--- such a call with the outcome that it answered
+-- that a list's file was to be written, with the outcome that it answered
 abbrev pub writing_outcome : {T E : Type 0} → (segment : ℕ) → List ℕ → Result T E → FolderEvent
 writing_outcome segment bytes (Ok _) = writing_event segment bytes false
 writing_outcome segment bytes (Err _) = writing_event segment bytes true
@@ -47,12 +47,12 @@ plain_event call failed = record { call = call; failed = failed; given = []; clo
 abbrev pub opening_with : FolderCall → List ℕ → FolderEvent
 opening_with call given = record { call = call; failed = false; given = given; closed = None }
 
--- a call with the outcome that it answered
+-- a call of a folder that gives no bytes, with the outcome that it answered
 abbrev pub folder_outcome : {T E : Type 0} → FolderCall → Result T E → FolderEvent
 folder_outcome call (Ok _) = plain_event call false
 folder_outcome call (Err _) = plain_event call true
 
--- an opening with its answer
+-- an opening of a file with its outcome, and with the bytes that the file gave
 abbrev pub opening_outcome : {B E : Type 0} → (B → Life) → FolderCall → Result B E → FolderEvent
 opening_outcome life call (Ok blob) = opening_with call (life blob).present.readable
 opening_outcome life call (Err _) = plain_event call true

@@ -8,7 +8,7 @@ use Rattle.segments.specs.declared.call.FolderCall.TheVariants as calls
 use Rattle.segments.specs.declared.error.Error.{Error}
 use Rattle.segments.specs.declared.error.Error.TheVariants as errors
 
--- an opening of a file
+-- the call of a folder by which a file is opened
 abbrev pub call_for : Asked → FolderCall
 call_for Manifest = calls.OpensManifest
 call_for (Segment number) = calls.Opens number

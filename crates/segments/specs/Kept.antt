@@ -13,7 +13,7 @@ use Rattle.segments.specs.MarkReads.{marks_root_of}
 
 -- ---- by the whole file
 
--- a file of these bytes has this length and this digest
+-- a file of these bytes has this length and this SHA-256
 pub record IsOf (bytes : List ℕ) (kept : FileDigest) : Type 0 where
   pub small : EachIsByte bytes
   pub len : kept.len ≡ length bytes
@@ -30,14 +30,15 @@ pub record IsTwin (bytes other : List ℕ) : Type 0 where
 abbrev pub HasTwin : (bytes : List ℕ) → Type 0
 HasTwin bytes = (other : List ℕ) × IsTwin bytes other
 
--- a content is the whole frames of a file's bytes that have this digest
+-- a content is the whole frames of a file's bytes that have this length and this SHA-256
 pub record IsInFile (sum : List ℕ → ℕ) (P : ℕ) (kept : FileDigest) (content : List ℕ)
     : Type 0 where
   pub bytes : List ℕ
   pub of : IsOf bytes kept
   pub holds : content ≡ whole_frames (text sum P bytes)
 
--- bytes of a file that have this digest, and whose whole frames are this content, have a twin
+-- bytes of a file that have this length and this SHA-256, and whose whole frames are this content,
+-- have a twin
 pub record HasFileTwin (sum : List ℕ → ℕ) (P : ℕ) (kept : FileDigest) (content : List ℕ)
     : Type 0 where
   pub holds : IsInFile sum P kept content
@@ -45,7 +46,8 @@ pub record HasFileTwin (sum : List ℕ → ℕ) (P : ℕ) (kept : FileDigest) (c
 
 -- ---- by either
 
--- a content has this fingerprint
+-- a content has this fingerprint: it is the whole frames of a file with this length and this
+-- SHA-256, or it has this seal
 abbrev pub HasFingerprint : (sum : List ℕ → ℕ) (d : List ℕ → List ℕ) (P : ℕ) → Fingerprint
     → (content : List ℕ) → Type 0
 HasFingerprint sum d P (Whole kept) content = IsInFile sum P kept content
@@ -58,18 +60,20 @@ abbrev pub HasTwinBy : (sum : List ℕ → ℕ) (d : List ℕ → List ℕ) (P :
 HasTwinBy sum d P (Whole kept) content = HasFileTwin sum P kept content
 HasTwinBy sum d P (Paged kept) content = HasSecondPreimage d P content
 
--- a content fits what was kept of a closed segment
+-- a content fits what was kept of a closed segment: it has this fingerprint
 abbrev pub HoldsClosed : (sum : List ℕ → ℕ) (d : List ℕ → List ℕ) (P : ℕ) → Closed
     → (content : List ℕ) → Type 0
 HoldsClosed sum d P kept content = HasFingerprint sum d P kept.fingerprint content
 
--- a content that fits what was kept of a closed segment has a twin
+-- a content that fits what was kept of a closed segment has a twin: other bytes were found by which
+-- what was kept is the same
 abbrev pub HasTwinOf : (sum : List ℕ → ℕ) (d : List ℕ → List ℕ) (P : ℕ) → Closed
     → (content : List ℕ) → Type 0
 HasTwinOf sum d P kept content = HasTwinBy sum d P kept.fingerprint content
 
--- what was kept is the seal of this content; and no other content has it, unless a second preimage
--- of that one is at hand. The root of its marks was kept too
+-- what was kept of a closed segment is the seal of this content, with the root of its marks; and no
+-- other content of this length has the root, unless a second preimage of that one is at hand. So a
+-- rotation can't keep a root that many contents have.
 pub record IsSealedBy (d : List ℕ → List ℕ) (P : ℕ) (content : List ℕ) (kept : Closed)
     : Type 0 where
   pub seal : PagedSeal
@@ -78,13 +82,13 @@ pub record IsSealedBy (d : List ℕ → List ℕ) (P : ℕ) (content : List ℕ)
   pub apart : TellsApart d P content seal.seal.root
   pub marks : seal.marks ≡ Some (marks_root_of d P content)
 
--- a closed segment is read by its pages with the digest of this number; one that is known by its
--- whole file is read with any
+-- a closed segment that is known by its pages was sealed with the digest of this number; one that
+-- is known by its whole file is read with any digest
 abbrev pub IsOfDigest : (number : ℕ) → Fingerprint → Type 0
 IsOfDigest number (Whole kept) = Unit {0}
 IsOfDigest number (Paged kept) = kept.number ≡ number
 
--- each of these closed segments is
+-- each of these closed segments can be read with the digest of this number, as `IsOfDigest` has it
 abbrev pub AreOfDigest : (number : ℕ) → List Closed → Type 0
 AreOfDigest number [] = Unit {0}
 AreOfDigest number (c ∷ cs) = IsOfDigest number c.fingerprint × AreOfDigest number cs

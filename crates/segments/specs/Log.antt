@@ -57,7 +57,8 @@ pub record ReadingState : Type 0 where
   pub paged : List PagedSegmentState
 
 -- a log as contracts see it: the manifest, the open segment, what the manifest lists, what the
--- folder was asked for, the closed segments that were read last, and what is known of the open one
+-- folder was asked for, the closed segments that were read last, the sizes, and what is known of
+-- the open segment
 pub record LogState : Type 0 where
   pub manifest : OwnedState
   pub current : OwnedState
@@ -70,11 +71,12 @@ pub record LogState : Type 0 where
   -- how many logical bytes of the open segment were durable as the log was opened or rotated
   pub known : ℕ
 
--- from how many bytes on an append closes the open segment: never one that has no byte
+-- from how many bytes on an append closes the open segment: from one byte at least, so that none is
+-- closed that has no byte
 abbrev pub most_for : (segment_size : ℕ) → ℕ
 most_for segment_size = if segment_size == 0 then 1 else segment_size
 
--- a closed segment in memory: there is a journal, and its content is that of the segment
+-- a closed segment in memory: it has a journal, and its content is in a file of which this was kept
 pub record IsLoaded (sum own : List ℕ → ℕ) (P : ℕ) (l : LoadedState) : Type 0 where
   pub page_size : l.owned.page_size ≡ P
   pub owned : IsOwned sum own l.owned
@@ -88,12 +90,13 @@ pub record Lists (sum own : List ℕ → ℕ) (P : ℕ) (listing : ListingState)
   pub committed : CommitsAll sum own P (content w life.present.readable) life.present
   pub durable : IsDurable life.present
 
--- the closed segments that are read have pages of this size
+-- the closed segments that are read have pages of this size, and the one in memory is loaded
 pub record IsReading (sum own : List ℕ → ℕ) (P : ℕ) (r : ReadingState) : Type 0 where
   pub whole : IfSome r.whole (λ l. IsLoaded sum own P l)
   pub paged : HavePages P r.paged
 
--- a log between two calls
+-- a log between two calls: its manifest, which lists what the log does, its open segment, and the
+-- closed ones that are read, each as it has to be
 pub record IsLog (sum own : List ℕ → ℕ) (s : LogState) : Type 0 where
   pub manifest : IsOwned sum own s.manifest
   pub current : IsOwned sum own s.current
@@ -113,18 +116,19 @@ pub record IsSameButManifest (s t : LogState) : Type 0 where
   pub most : t.most ≡ s.most
 
 -- the last call that the folder was asked for, after these, was to keep a copy of the manifest as
--- it is now, with what is known of the open segment. If that failed the log goes on
+-- it is now, with what is known of the open segment. If that call failed the log goes on.
 pub record IsKept (before : List FolderEvent) (t : LogState) : Type 0 where
   pub failed : Bool
   pub asked : t.asked ≡ before ++ keeping_event (open_in t.listing) t.known
       t.manifest.life.present.readable failed ∷ []
 
--- a copy of the manifest was to be kept, and nothing else was done
+-- a copy of the manifest was to be kept, as `IsKept` has it, and nothing else was done
 pub record HasKept (s t : LogState) : Type 0 where
   pub kept : IsKept s.asked t
   pub rest : t ≡ record s { asked = t.asked }
 
--- what is known of the open segment after an entry: the next one has no byte yet
+-- how many bytes of the open segment are known after an entry: as many as before if the entry drops
+-- segments, and none if it closes the open one
 abbrev pub known_with : Entry → ℕ → ℕ
 known_with (Starts first page_size) known = known
 known_with (Closes kept) known = 0
@@ -144,8 +148,8 @@ pub record IsEntered (own : List ℕ → ℕ) (entry : Entry) (s t : LogState) :
   pub known : t.known ≡ known_with entry s.known
   pub kept : IsKept s.asked t
 
--- an entry is refused: it can't follow those before it; or a call of the manifest failed, now or
--- before; or memory failed
+-- why an entry is refused: it can't follow those before it; or a call of the manifest failed, now
+-- or before; or memory was refused
 abbrev pub EnterRefused : Entry → LogState → Error → Type 0
 EnterRefused entry s (errors.Layer e) = Unit {0}
 EnterRefused entry s errors.Manifest = listed_with s.page_size entry s.listing ≡ None
@@ -167,9 +171,8 @@ abbrev pub EnterGoes : (own : List ℕ → ℕ) → Entry → LogState → LogSt
 EnterGoes own entry s t (Ok u) = IsEntered own entry s t
 EnterGoes own entry s t (Err e) = IsNotEntered entry s t e
 
--- what was committed of the manifest is so at each moment since, and chance aside (no checksum
--- collides) a crash at any of these moments leaves only the first of its entries with this one
--- after them
+-- what was committed of the manifest is so at each moment since, and a crash at any of these
+-- moments, if no checksum collides, leaves a prefix of its entries with this one after them
 abbrev pub ManifestKeeps : (sum own : List ℕ → ℕ) → Entry → LogState → LogState → Type 0
 ManifestKeeps sum own entry s t = IfSome s.manifest.journal (λ w.
     KeepsRecords sum own s.page_size (records_now own s.manifest ++ entered_bytes entry s ∷ [])
@@ -198,7 +201,7 @@ pub record IsSameButCurrent (s t : LogState) : Type 0 where
   pub most : t.most ≡ s.most
   pub known : t.known ≡ s.known
 
--- the open segment of a log was closed, at the end of this life of its blob: it has the records
+-- the open segment of a log was closed, at the end of this life of its blob: its records are those
 -- that it had, all of it is durable, and the seal of its content was kept
 pub record WasClosed (sum own : List ℕ → ℕ) (d : List ℕ → List ℕ) (s : LogState) (last : Life)
     (kept : Closed) : Type 0 where
@@ -213,13 +216,14 @@ pub record IsClosedAs (sum own : List ℕ → ℕ) (d : List ℕ → List ℕ) (
   pub closed : WasClosed sum own d s last kept
   pub levels : AreSegmentLevels d s.page_size (content_now s.current) l
 
+-- the open segment is closed, by the answer: `IsClosedAs`; or an error of the seal of its journal
 abbrev pub CloseCurrentGoes : (sum own : List ℕ → ℕ) → (d : List ℕ → List ℕ) → LogState → LogState
     → Result (Closed × SegmentLevels) Error → Type 0
 CloseCurrentGoes sum own d s t (Ok r) = IsClosedAs sum own d s t.current.life r.0 r.1
 CloseCurrentGoes sum own d s t (Err e) = OwnedSealGoes d sum own s.current t.current (Err e)
 
--- what a call of the open segment's journal leaves: what was committed is so at each moment since,
--- and chance aside a crash at any of these moments leaves only the first of these records
+-- what a call of the open segment's journal keeps: at each moment since, what was committed is so
+-- still; and a crash, if no checksum collides, leaves a prefix of these records
 abbrev pub CurrentKeeps : (sum own : List ℕ → ℕ) → List (List ℕ) → LogState → LogState → Type 0
 CurrentKeeps sum own all s t = IfSome s.current.journal (λ w.
     KeepsRecords sum own s.page_size all s.current.life t.current.life)
@@ -268,7 +272,7 @@ pub record HasNext (sum own : List ℕ → ℕ) (s t : LogState) (next : OwnedSt
   pub leaves : OnlyRecords sum own s.page_size [] next.life.present
   pub asked : t.asked ≡ s.asked ++ events_for (open_in s.listing + 1) []
 
--- an opening of the next segment is refused. The folder refused it; or its file has bytes, so that
+-- why an opening of the next segment is refused: the folder refused it; or its file has bytes, so
 -- the manifest doesn't know all; or no number is left for it, and nothing was asked; or its file
 -- was opened, and the device or memory failed
 abbrev pub NextRefused : LogState → LogState → Error → Type 0
@@ -282,6 +286,7 @@ NextRefused s t errors.NumbersExhausted =
     (open_in s.listing ≡ 18446744073709551615) × (t.asked ≡ s.asked)
 NextRefused s t e = ⊥
 
+-- the next segment is opened, by the answer: `HasNext`; or it is refused (`NextRefused`)
 abbrev pub OpenNextGoes : (sum own : List ℕ → ℕ) → LogState → LogState → Result OwnedState Error
     → Type 0
 OpenNextGoes sum own s t (Ok next) = HasNext sum own s t next
@@ -354,8 +359,8 @@ pub record IsRotated (sum own : List ℕ → ℕ) (d : List ℕ → List ℕ) (s
   pub page_size : t.page_size ≡ s.page_size
   pub most : t.most ≡ s.most
 
--- a rotation that failed as the open segment was committed, or as its digests were made: nothing
--- else was done
+-- a rotation that failed as the open segment was committed, or as its digests were made. Nothing
+-- else was done.
 pub record IsNotClosed (sum own : List ℕ → ℕ) (d : List ℕ → List ℕ) (s t : LogState) (e : Error)
     : Type 0 where
   pub rest : IsSameButCurrent s t
@@ -385,8 +390,8 @@ pub record IsNotFollowed (sum own : List ℕ → ℕ) (d : List ℕ → List ℕ
   pub refused : NextRefused (record s { asked = asked_listing d s }) t e
 
 -- a rotation that failed as the manifest was to get its entry: all of the closed segment is
--- durable. The manifest is as it was; or it has no journal, and whether it has the entry shows at
--- an opening
+-- durable. The manifest is as it was; or it has no journal, and only an opening shows whether it
+-- has the entry.
 pub record IsNotListed (sum own : List ℕ → ℕ) (d : List ℕ → List ℕ) (s t : LogState) (e : Error)
     : Type 0 where
   pub last : Life
@@ -406,14 +411,14 @@ RotateGoes sum own d s t (Err e) = (t.current.journal ≡ None)
     × (IsNotClosed sum own d s t e ⊎ IsNotWritten sum own d s t e
     ⊎ IsNotFollowed sum own d s t e ⊎ IsNotListed sum own d s t e)
 
--- where the blob was durable, chance aside a crash leaves only the first of its records
+-- if all of the blob was durable, a crash, if no checksum collides, leaves a prefix of its records
 abbrev pub LeavesOpened : (sum own : List ℕ → ℕ) → ℕ → Life → OwnedState → Type 0
 LeavesOpened sum own P old o = IsDurable old.present
     → OnlyRecords sum own P (records own (text sum P old.present.readable)) o.life.present
 
 -- ---- appending and committing
 
--- a record was appended to the open segment
+-- an append to the open segment, by its answer: the record stands at the end of that segment
 abbrev pub AppendHereGoes : (sum own : List ℕ → ℕ) → List ℕ → LogState → LogState
     → Result Place Error → Type 0
 AppendHereGoes sum own bytes s t (Ok p) = (p.segment ≡ open_in s.listing)
@@ -437,8 +442,8 @@ pub record IsRefusedAfter (sum own : List ℕ → ℕ) (d : List ℕ → List �
   pub rest : IsSameButCurrent mid t
   pub refused : OwnedAppendGoes sum own bytes mid.current t.current (Err e)
 
--- an append is refused: the append to the open segment, and nothing else was done; or, where the
--- log is to be rotated first, the rotation, or the append to the next segment
+-- why an append is refused: the append to the open segment was, and nothing else was done; or, if
+-- the log is to be rotated first, the rotation was, or the append to the next segment
 abbrev pub AppendRefused : (sum own : List ℕ → ℕ) → (d : List ℕ → List ℕ) → List ℕ
     → LogState → LogState → Error → Type 0
 AppendRefused sum own d bytes s t e =
@@ -456,7 +461,7 @@ LogAppendGoes sum own d bytes s t (Err e) =
 
 -- ---- the records, by what closed segments held
 
--- each closed segment held a content of which this was kept
+-- each closed segment held a content that fits what was kept of it, as `HoldsClosed` has it
 abbrev pub TellHeld : (sum : List ℕ → ℕ) → (d : List ℕ → List ℕ) → ℕ → (held : ℕ → List ℕ)
     → (first : ℕ) → List Closed → Type 0
 TellHeld sum d P held first [] = Unit {0}
@@ -475,28 +480,28 @@ abbrev pub log_records : (own : List ℕ → ℕ) → (held : ℕ → List ℕ) 
 log_records own held s =
     closed_records own held s.listing.first s.listing.closed ++ records_now own s.current
 
--- a segment is closed: something is kept of it
+-- a segment is closed, by a listing: something is kept of it
 abbrev pub IsClosedIn : ListingState → ℕ → Type 0
 IsClosedIn l segment = (kept : Closed) × (closed_at l segment ≡ Some kept)
 
--- this segment is closed, and of what it held a twin was found
+-- this segment is closed, and a twin was found of what it held
 abbrev pub HasTwinAt : (sum : List ℕ → ℕ) → (d : List ℕ → List ℕ) → ℕ → (held : ℕ → List ℕ)
     → ListingState → ℕ → Type 0
 HasTwinAt sum d P held l segment = (kept : Closed) × (closed_at l segment ≡ Some kept)
     × HasTwinOf sum d P kept (held segment)
 
--- of what a closed segment held a twin was found
+-- of what one of the closed segments held a twin was found
 abbrev pub HasTwinIn : (sum : List ℕ → ℕ) → (d : List ℕ → List ℕ) → ℕ → (held : ℕ → List ℕ)
     → ListingState → Type 0
 HasTwinIn sum d P held l = (segment : ℕ) × HasTwinAt sum d P held l segment
 
--- a second preimage is at hand of what the open segment is said to have held
+-- a second preimage is at hand of what the segment held that is open now
 abbrev pub HasOpenTwin : (d : List ℕ → List ℕ) → (held : ℕ → List ℕ) → LogState → Type 0
 HasOpenTwin d held s = HasSecondPreimage d s.page_size (held (open_in s.listing))
 
--- whatever the closed segments held, so long as it fits what was kept of them: the log has the
--- records that it had, and then these; or a second preimage is at hand of what the segment held
--- that was the open one, and is closed now
+-- whatever the closed segments held, if it fits what was kept of them: the log has the records that
+-- it had, and then these; or a second preimage is at hand of what the segment held that was open,
+-- and may be closed now
 abbrev pub HasMore : (sum own : List ℕ → ℕ) → (d : List ℕ → List ℕ) → List (List ℕ)
     → LogState → LogState → Type 0
 HasMore sum own d more s t = (held : ℕ → List ℕ)
@@ -506,7 +511,7 @@ HasMore sum own d more s t = (held : ℕ → List ℕ)
 
 -- ---- reading
 
--- the content of the open segment, where it has a journal
+-- the content of the open segment, if that has a journal
 abbrev pub IsCurrentContent : LogState → List ℕ → Type 0
 IsCurrentContent s held = HasJournal s.current.journal (λ w.
     held ≡ content w s.current.life.present.readable)
@@ -524,7 +529,7 @@ pub record IsReadOfClosed (sum own : List ℕ → ℕ) (d : List ℕ → List �
   pub reads : (content : List ℕ) → HoldsClosed sum d P kept content
       → IsReadOf own content offset found ⊎ HasTwinOf sum d P kept content
 
--- a segment is closed
+-- a segment is closed, by what a log lists
 abbrev pub IsListed : LogState → ℕ → Type 0
 IsListed s segment = IsClosedIn s.listing segment
 
@@ -535,7 +540,7 @@ ReadFails own s t p e = ((p.segment ≡ open_in s.listing)
     × OwnedReadGoes own p.offset s.current t.current (Err (errors.Layer e)))
     ⊎ IsListed s p.segment
 
--- a segment is closed, and of its fingerprint this holds
+-- a segment is closed, and this holds of its fingerprint
 abbrev pub IsKeptAs : ListingState → ℕ → (Fingerprint → Type 0) → Type 0
 IsKeptAs l segment Is =
     (kept : Closed) × (closed_at l segment ≡ Some kept) × Is kept.fingerprint
@@ -547,7 +552,7 @@ pub record IsReadLast (segment : ℕ) (p : PagedSegmentState) (t : LogState) : T
   pub number : p.number ≡ segment
 
 -- the closed segment that was read last has this number and this seal, and something of it couldn't
--- be read so, for damage
+-- be read, for damage: a frame, or a frame's length in a search
 pub record HasDamagedLast (d : List ℕ → List ℕ)
     (Fails : PagedState → PagedState → pages.Error → Type 0) (P : ℕ) (seal : Seal) (segment : ℕ)
     (t : LogState) : Type 0 where
@@ -565,15 +570,15 @@ IsDamagedBy d P offset segment t (Whole kept) = Unit {0}
 IsDamagedBy d P offset segment t (Paged kept) = HasDamagedFile d P kept.seal
     ⊎ HasDamagedLast d (FrameFails d offset) P kept.seal segment t
 
--- a content of this fingerprint has more bytes than a content can have that is read by its pages
+-- a fingerprint has a length that no content has which is read by its pages
 abbrev pub IsBeyondPages : Fingerprint → Type 0
 IsBeyondPages (Whole kept) = ⊥
 IsBeyondPages (Paged kept) = IsBeyondLimit kept.seal
 
--- a read of a segment is refused: there is none of this number; or it is closed, and its file
--- doesn't hold what it held, or by its marks no frame begins there, or the folder refuses a file,
--- or the manifest can't be right about its length; or it is the open one, and a call before failed;
--- or the device or memory failed
+-- why a read of a segment is refused: there is none of this number; or it is closed, and its file
+-- or its list doesn't hold what it held, or by its marks no frame begins there, or the folder
+-- refuses a file, or the manifest can't be right about its length; or it is the open one, and a
+-- call before failed; or the device or memory failed
 abbrev pub LogReadRefused : (own : List ℕ → ℕ) → (d : List ℕ → List ℕ) → LogState → LogState
     → Place → Error → Type 0
 LogReadRefused own d s t p (errors.NoSegment n) = (n ≡ p.segment)
@@ -608,9 +613,9 @@ pub record LastMarksFail (d : List ℕ → List ℕ) (segment offset : ℕ) (t :
   pub number : last.number ≡ segment
   pub fails : MarksFail d offset last
 
--- where a read found a frame in a closed segment of which marks were kept, one begins: so it is in
--- every content that fits what was kept, unless a second preimage is at hand; or the marks couldn't
--- be used
+-- if a read found a frame in a closed segment of which marks were kept, one begins there: so it is
+-- in every content that fits what was kept, unless a second preimage is at hand. Or the marks
+-- couldn't be used.
 abbrev pub LogReadBegins : (d : List ℕ → List ℕ) → (t : LogState) → Place
     → Result (Option Found) Error → Type 0
 LogReadBegins d t p (Ok (Some found)) =
@@ -646,6 +651,8 @@ pub record HasLoaded (sum own : List ℕ → ℕ) (s : LogState) (kept : FileDig
   pub same : l.kept ≡ kept
   pub loaded : IsLoaded sum own s.page_size l
 
+-- a closed segment is to be read into memory, by the answer: `HasLoaded`; or its file is damaged,
+-- or the system refused it, or memory did
 abbrev pub TakeLoadedGoes : (sum own : List ℕ → ℕ) → LogState → ℕ → FileDigest
     → Result LoadedState Error → Type 0
 TakeLoadedGoes sum own s number kept (Ok l) = HasLoaded sum own s kept l
@@ -675,7 +682,8 @@ AreOfOlder from first (e ∷ es) =
     × AreOfOlder (suc number) first es)
     ⊎ ((e.call ≡ calls.Syncs) × AreOfOlder from first es)
 
--- the folder was asked only for such calls
+-- the folder was asked only to remove segments before this one, the oldest first, or to sync the
+-- names
 pub record AsksOfOlder (first : ℕ) (old new : List FolderEvent) : Type 0 where
   pub events : List FolderEvent
   pub all : new ≡ old ++ events
@@ -691,12 +699,12 @@ abbrev pub EndsUnsynced : List FolderEvent → Type 0
 EndsUnsynced events = (before : List FolderEvent)
     × (events ≡ before ++ plain_event calls.Syncs true ∷ [])
 
--- none of these calls failed
+-- none of these calls of a folder failed
 abbrev pub AreDone : List FolderEvent → Type 0
 AreDone [] = Unit {0}
 AreDone (e ∷ es) = (e.failed ≡ false) × AreDone es
 
--- none of these calls is a sync
+-- none of these calls of a folder is a sync
 abbrev pub NoneSyncs : List FolderEvent → Type 0
 NoneSyncs [] = Unit {0}
 NoneSyncs (e ∷ es) = (e.call ≢ calls.Syncs) × NoneSyncs es
@@ -740,8 +748,8 @@ StartFromGoes segment s t (Ok u) = IsStartedFrom segment s t
 StartFromGoes segment s t (Err e) =
     IsSameButManifest s t × IsNotEntered (Starts segment s.page_size) s t e
 
--- the log was closed: the open segment has no journal any more. What the manifest lists stays, and
--- so does all else, except for the manifest's own journal
+-- the log was closed: the open segment has no journal any more. All else stays, except for the
+-- manifest's own journal.
 pub record IsClosedOff (s t : LogState) : Type 0 where
   pub current : t.current ≡ without_journal s.current
   pub listing : t.listing ≡ s.listing
@@ -757,7 +765,7 @@ StartOrCloseGoes segment s t (Ok u) = IsStartedFrom segment s t
 StartOrCloseGoes segment s t (Err e) =
     IsClosedOff s t × EnterRefused (Starts segment s.page_size) s e
 
--- there was no such segment; or the manifest lists this one as the first
+-- there was nothing to drop before this segment; or the manifest lists it as the first one
 abbrev pub StartsAt : ℕ → LogState → LogState → Type 0
 StartsAt segment s m = ((segment ≤ s.listing.first) × (m ≡ s))
     ⊎ ((s.listing.first < segment) × IsStartedFrom segment s m)
@@ -793,7 +801,8 @@ pub record IsDropped (segment : ℕ) (s t : LogState) : Type 0 where
   pub synced : EndsSynced t.asked
   pub done : AsksWell mid.asked t.asked
 
--- a removal was refused, or the folder couldn't be looked at: it wasn't asked for a sync
+-- a drop that ended before it asked for a sync: a removal was refused, or the folder couldn't be
+-- looked at
 pub record IsRefusedDrop (segment : ℕ) (s t : LogState) : Type 0 where
   pub mid : LogState
   pub drops : IsDropping segment s mid t
@@ -812,9 +821,9 @@ pub record IsBeyond (segment n : ℕ) (s t : LogState) : Type 0 where
   pub beyond : open_in s.listing < segment
   pub stays : IsClosedLog s → ⊥
 
--- a drop, by its answer. Nothing is done where the log is closed, or there is no such segment yet.
+-- a drop, by its answer. Nothing is done if the log is closed, or if there is no such segment yet.
 -- If the manifest can't be written no file is removed, and the log is closed. If the folder refuses
--- a call the drop is in the manifest
+-- a call the drop is in the manifest.
 abbrev pub LogDropGoes : ℕ → LogState → LogState → Result (Unit {0}) Error → Type 0
 LogDropGoes segment s t (Ok u) = IsDropped segment s t
 LogDropGoes segment s t (Err (errors.NoSegment n)) = IsBeyond segment n s t

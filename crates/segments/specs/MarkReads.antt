@@ -21,7 +21,8 @@ pub record HasMarks (d : List ℕ → List ℕ) (P : ℕ) (content : List ℕ) (
   pub len : count ≡ length content
   pub root : kept ≡ marks_root_of d P content
 
--- a second preimage is at hand: of a page of a content's marks, or of the digests of those
+-- a second preimage is at hand, that is bytes can be named that are one: of a page of a content's
+-- marks, or of the digests of those pages
 abbrev pub HasMarksPreimage : (List ℕ → List ℕ) → (P : ℕ) → List ℕ → Type 0
 HasMarksPreimage d P content =
     ((other : List ℕ) × IsSecondPreimage d other (list_of d P (marks_of P content)))
@@ -65,12 +66,12 @@ pub record AreSameMarks (old new : MarksState) : Type 0 where
   pub root : new.root ≡ old.root
   pub bytes : IsSameBytes old.bytes new.bytes
 
--- in every content with marks of this root it is so, unless a second preimage is at hand
+-- in each content with marks of this root it is so, unless a second preimage is at hand
 abbrev pub IsOfMarks : (List ℕ → List ℕ) → MarksState → ((P : ℕ) → List ℕ → Type 0) → Type 0
 IsOfMarks d m is = let P = m.bytes.page_size in (content : List ℕ)
     → HasMarks d P content m.len m.root → is P content ⊎ HasMarksPreimage d P content
 
--- a page of the marks can't be used, which has bytes of the mark of page i; or memory was refused
+-- a page of the marks that has bytes of the mark of page i can't be used; or memory was refused
 abbrev pub MarkFails : (List ℕ → List ℕ) → (i : ℕ) → (old new : MarksState) → Error → Type 0
 MarkFails d i old new e = (j : ℕ) × IsTouched old.bytes.page_size (i * 8) 8 j
     × BytesPageFails d old.bytes j old.bytes.reads new.bytes.reads e
@@ -92,6 +93,8 @@ MarkAnswers d i old new (Ok m) =
     × IsOfMarks d old (λ P content. m ≡ mark_at P content i)
 MarkAnswers d i old new (Err e) = MarkFails d i old new e
 
+-- the mark of page i is read: the marks are the same, only pages that have bytes of it were read,
+-- and the answer is as `MarkAnswers` has it
 pub record MarkGoes (d : List ℕ → List ℕ) (i : ℕ) (old new : MarksState)
     (result : Result Mark Error) : Type 0 where
   pub same : AreSameMarks old new
@@ -99,8 +102,8 @@ pub record MarkGoes (d : List ℕ → List ℕ) (i : ℕ) (old new : MarksState)
       ≤ length old.bytes.reads + pages_touched old.bytes.page_size (i * 8) 8
   pub answers : MarkAnswers d i old new result
 
--- a frame begins there, the first at page i's begin or behind it; if none begins in the pages, it
--- is told at their end
+-- a frame begins at this offset: the first one from page i's begin on. If none begins there in the
+-- pages, the offset is their end.
 pub record IsFirstFrom (P : ℕ) (content : List ℕ) (i : ℕ) (b : Begin) : Type 0 where
   pub number : b.number ≡ begins_before content (i * P)
   pub offset : let n = begins_before content (i * P) in
@@ -115,6 +118,8 @@ FirstAnswers d i old new (Ok b) = (b.number < 2 ^ 48) × (i * old.bytes.page_siz
 FirstAnswers d i old new (Err e) =
     (k : ℕ) × (i ≤ k) × ReadsMarks (k + 1 - i) old new × MarkFails d k old new e
 
+-- the first frame from page i on is searched for: the marks are the same, and the answer is as
+-- `FirstAnswers` has it
 pub record FirstGoes (d : List ℕ → List ℕ) (i : ℕ) (old new : MarksState)
     (result : Result Begin Error) : Type 0 where
   pub same : AreSameMarks old new
@@ -141,6 +146,8 @@ pub record HalvesRead (old new : MarksState) : Type 0 where
   pub few : 2 ^ marks ≤ 2 * pages_of_len old.bytes.page_size old.len
   pub reads : ReadsMarks marks old new
 
+-- the page in which frame n begins is searched for: the marks are the same, no more of them was
+-- read than a search by halves needs, and the answer is as `NthAnswers` has it
 pub record NthGoes (d : List ℕ → List ℕ) (n : ℕ) (old new : MarksState)
     (result : Result ℕ Error) : Type 0 where
   pub same : AreSameMarks old new
@@ -160,6 +167,8 @@ MarkedStartAnswers d n old new (Ok b) =
     (i : ℕ) × IsOfMarks d old (λ P content. IsCountStart P content n i b)
 MarkedStartAnswers d n old new (Err e) = (i : ℕ) × MarkFails d i old new e
 
+-- a begin from which frame n can be counted is searched for: the marks are the same, and the answer
+-- is as `MarkedStartAnswers` has it
 pub record MarkedStartGoes (d : List ℕ → List ℕ) (n : ℕ) (old new : MarksState)
     (result : Result Begin Error) : Type 0 where
   pub positive : 0 < old.bytes.page_size

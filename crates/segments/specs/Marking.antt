@@ -16,7 +16,7 @@ pub record MarkingState : Type 0 where
   pub skip : ℕ
   pub is_cut : Bool
 
--- the second byte of a length that is cut
+-- the second byte of a length, if the first one ends a page
 abbrev pub if_cut : Bool → ℕ → ℕ
 if_cut is_cut byte = if is_cut then byte else 0
 
@@ -65,8 +65,8 @@ PushesPage page s t (Ok _) = (t.page_size ≡ s.page_size) × (t.pages ≡ s.pag
     → IsMarkedTo content (s.pages * s.page_size + length page) t)
 PushesPage page s t (Err _) = t ≡ s
 
--- a whole page is taken, by the answer: whatever content is marked so far, and whose next page this
--- is, is marked up to that page then. After an error nothing was taken
+-- a whole page is taken, by the answer: each content that is marked so far, and whose next page
+-- this is, is marked up to that page then. After an error nothing was taken.
 abbrev pub TakesMarkedPage : {E : Type 0} → List ℕ → (s t : MarkingState)
     → Result (Unit {0}) E → Type 0
 TakesMarkedPage page s t (Ok _) = (t.page_size ≡ s.page_size) × (t.pages ≡ s.pages + 1)

@@ -38,6 +38,6 @@ abbrev pub marks : (P : ℕ) → List ℕ → (n : ℕ) → List ℕ
 marks P content zero = []
 marks P content (suc n) = marks P content n ++ mark_bytes (mark_at P content n)
 
--- the marks of all its pages, joined
+-- the marks of all pages of a content, joined
 abbrev pub marks_of : (P : ℕ) → List ℕ → List ℕ
 marks_of P content = marks P content (pages_of_len P (length content))

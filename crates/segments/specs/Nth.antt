@@ -46,7 +46,8 @@ pub record OpenReadFails (sum own : List ℕ → ℕ) (s t : LogState) (e : laye
   pub before : LeavesReading sum own s mid
   pub fails : OwnedReadGoes own at mid.current t.current (Err (errors.Layer e))
 
--- where frame n of the open segment begins, by the answer
+-- where frame n of the open segment begins, by the answer: it is read on by the lengths of the
+-- frames
 abbrev pub NthOfOpenGoes : (sum own : List ℕ → ℕ) → LogState → LogState → (n : ℕ)
     → Result (Option ℕ) Error → Type 0
 NthOfOpenGoes sum own s t n (Ok found) = HasJournal s.current.journal (λ w. Unit {0})
@@ -55,7 +56,7 @@ NthOfOpenGoes sum own s t n (Err errors.Closed) = s.current.journal ≡ None
 NthOfOpenGoes sum own s t n (Err (errors.Layer e)) = OpenReadFails sum own s t e
 NthOfOpenGoes sum own s t n (Err e) = ⊥
 
--- an offset of a segment as a place
+-- an offset of a segment as a place, if there is one
 abbrev pub placed : (segment : ℕ) → Option ℕ → Option Place
 placed segment None = None
 placed segment (Some offset) = Some (record { segment = segment; offset = offset })

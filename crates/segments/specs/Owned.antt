@@ -26,8 +26,9 @@ use Rattle.segments.specs.declared.error.Error.TheVariants as errors
 use Rattle.segments.specs.declared.segment_digesting.SegmentLevels.{SegmentLevels}
 use Rattle.segments.specs.SegmentLevels.{AreSegmentLevels}
 
--- such a blob, journal and cache as contracts see them, and how many pages of the journal's content
--- are digested ahead; there is no journal once a call that takes it failed
+-- a blob with a journal and a cache of its own, as contracts see them, and how many pages of the
+-- journal's content are digested ahead. Once a call that takes the journal has failed there is
+-- none.
 pub record OwnedState : Type 0 where
   pub cache : CacheState
   pub life : Life
@@ -36,49 +37,53 @@ pub record OwnedState : Type 0 where
   pub records : ℕ
   pub digested : ℕ
 
--- the journal is one between two calls, has pages of this size, and so many records
+-- the journal is one between two calls, has pages of this size, and has as many records as are
+-- counted
 pub record IsOwnedJournal (sum own : List ℕ → ℕ) (s : OwnedState) (w : WriterState) : Type 0 where
   pub journal : IsJournal sum w s.cache s.life
   pub page_size : w.page_size ≡ s.page_size
   pub counts : s.records ≡ length (records_in own w s.life)
 
--- such a blob, journal and cache between two calls
+-- a blob with a journal and a cache of its own, between two calls: if there is a journal, it is as
+-- `IsOwnedJournal` has it, and the cache is fresh
 abbrev pub IsOwned : (sum own : List ℕ → ℕ) → OwnedState → Type 0
 IsOwned sum own s = IsFresh s.cache × IfSome s.journal (λ w. IsOwnedJournal sum own s w)
 
--- the records that a journal has; none where there is no journal
+-- the records of a journal; none if there is no journal
 abbrev pub records_of : (own : List ℕ → ℕ) → Option WriterState → Life → List (List ℕ)
 records_of own None life = []
 records_of own (Some w) life = records_in own w life
 
+-- the records of a journal, as the bytes of its blob are now; none if there is no journal
 abbrev pub records_now : (own : List ℕ → ℕ) → OwnedState → List (List ℕ)
 records_now own s = records_of own s.journal s.life
 
--- the content of a journal; none where there is no journal
+-- the content of a journal; none if there is no journal
 abbrev pub content_of : Option WriterState → Life → List ℕ
 content_of None life = []
 content_of (Some w) life = content w life.present.readable
 
+-- the content of a journal, as the bytes of its blob are now; none if there is no journal
 abbrev pub content_now : OwnedState → List ℕ
 content_now s = content_of s.journal s.life
 
--- how many bytes its content has; none where there is no journal
+-- how many bytes the content of a journal has; 0 if there is no journal
 abbrev pub owned_size : Option WriterState → ℕ
 owned_size None = 0
 owned_size (Some w) = size_of w
 
--- there is a journal, of which this holds
+-- there is a journal, and this holds of it
 abbrev pub HasJournal : Option WriterState → (WriterState → Type 0) → Type 0
 HasJournal None P = ⊥
 HasJournal (Some w) P = P w
 
--- there was a journal, and there is one, of which this holds
+-- there was a journal, and there is one of which this holds
 abbrev pub KeepsJournal : Option WriterState → Option WriterState
     → (WriterState → WriterState → Type 0) → Type 0
 KeepsJournal was is P = HasJournal was (λ w. HasJournal is (λ now. P w now))
 
--- an append, by its answer: an error of the layer leaves no journal, and without one nothing is
--- done
+-- an append of a record, by its answer: at Ok the journal has it at the end. An error of the layer
+-- leaves no journal; if there was none, nothing is done.
 abbrev pub OwnedAppendGoes : (sum own : List ℕ → ℕ) → List ℕ → OwnedState → OwnedState
     → Result ℕ Error → Type 0
 OwnedAppendGoes sum own bytes s t (Ok at) = KeepsJournal s.journal t.journal (λ w now.
@@ -88,7 +93,8 @@ OwnedAppendGoes sum own bytes s t (Err (errors.Layer e)) = HasJournal s.journal 
 OwnedAppendGoes sum own bytes s t (Err errors.Closed) = (s.journal ≡ None) × (t ≡ s)
 OwnedAppendGoes sum own bytes s t (Err _) = ⊥
 
--- a commit, by its answer
+-- a commit, by its answer: at Ok all records are durable. An error of the layer leaves no journal;
+-- if there was none, nothing is done.
 abbrev pub OwnedCommitGoes : (sum own : List ℕ → ℕ) → OwnedState → OwnedState
     → Result (Unit {0}) Error → Type 0
 OwnedCommitGoes sum own s t (Ok _) = KeepsJournal s.journal t.journal (λ w now.
@@ -98,7 +104,8 @@ OwnedCommitGoes sum own s t (Err (errors.Layer e)) = HasJournal s.journal (λ w.
 OwnedCommitGoes sum own s t (Err errors.Closed) = (s.journal ≡ None) × (t ≡ s)
 OwnedCommitGoes sum own s t (Err _) = ⊥
 
--- the start of a commit, by its answer
+-- the start of a commit, by its answer. An error of the layer leaves no journal; if there was none,
+-- nothing is done.
 abbrev pub OwnedStartGoes : (sum own : List ℕ → ℕ) → OwnedState → OwnedState
     → Result StartedSync Error → Type 0
 OwnedStartGoes sum own s t (Ok started) = KeepsJournal s.journal t.journal (λ w now.
@@ -108,7 +115,8 @@ OwnedStartGoes sum own s t (Err (errors.Layer e)) = HasJournal s.journal (λ w.
 OwnedStartGoes sum own s t (Err errors.Closed) = (s.journal ≡ None) × (t ≡ s)
 OwnedStartGoes sum own s t (Err _) = ⊥
 
--- a wait for the commit that was started last, by its answer
+-- a wait for the commit that was started last, by its answer. An error of the layer leaves no
+-- journal; if there was none, nothing is done.
 abbrev pub OwnedWaitGoes : (sum own : List ℕ → ℕ) → OwnedState → OwnedState
     → Result (Unit {0}) Error → Type 0
 OwnedWaitGoes sum own s t (Ok _) = KeepsJournal s.journal t.journal (λ w now.
@@ -150,8 +158,8 @@ OwnedRecoverGoes sum own capacity s t (Ok records) = HasJournal t.journal (λ w.
 OwnedRecoverGoes sum own capacity s t (Err e) = (t.journal ≡ None)
     × JournalRecoverGoes sum own s.cache t.cache capacity s.life t.life (Err e)
 
--- the blob's last life, of a segment with these records: all bytes are durable, and their text has
--- just these records
+-- the last life of a segment's blob, once its journal was closed: all bytes are durable, and their
+-- text has just these records
 pub record IsShut (sum own : List ℕ → ℕ) (P : ℕ) (all : List (List ℕ)) (life : Life) : Type 0 where
   pub durable : IsDurable life.present
   pub tells : records own (text sum P life.present.readable) ≡ all
@@ -182,8 +190,8 @@ LevelsGo d s t (Ok levels) = HasJournal s.journal (λ w. Unit {0})
     × TellsApart d s.page_size (content_now s) levels.content.root
 LevelsGo d s t (Err e) = DigestsFail s t e
 
--- all records of a journal were committed, and all of the blob is durable; then a page of its
--- content couldn't be read, or memory was refused as the digests of its pages were made
+-- a seal that failed as the digests were made: all records of the journal were committed, and all
+-- of the blob is durable; then a page of its content couldn't be read, or memory was refused
 pub record IsUndigested (sum own : List ℕ → ℕ) (P : ℕ) (w : WriterState) (old new : Life)
     (e : layer.Error) : Type 0 where
   pub shut : IsShut sum own P (records_in own w old) new
@@ -204,19 +212,19 @@ OwnedSealGoes d sum own s t (Err (errors.Layer e)) = HasJournal s.journal (λ w.
 OwnedSealGoes d sum own s t (Err errors.Closed) = (s.journal ≡ None) × (t ≡ s)
 OwnedSealGoes d sum own s t (Err _) = ⊥
 
--- what was committed is so at each moment since, and chance aside (no checksum collides) a crash at
--- any of these moments leaves only the first of the records
+-- at each moment since, what was committed is so still; and a crash, if no checksum collides,
+-- leaves a prefix of these records
 pub record KeepsRecords (sum own : List ℕ → ℕ) (P : ℕ) (all : List (List ℕ)) (old new : Life)
     : Type 0 where
   pub kept : KeepsCommitted sum own P old new
   pub only : LeavesRecords sum own P all old new
 
--- what a call of the journal that adds no record keeps, whatever it answers
+-- a call of the journal that adds no record keeps its records, as `KeepsRecords` has it
 abbrev pub OwnedKeeps : (sum own : List ℕ → ℕ) → OwnedState → OwnedState → Type 0
 OwnedKeeps sum own s t = IfSome s.journal (λ w.
     KeepsRecords sum own s.page_size (records_in own w s.life) s.life t.life)
 
--- such a blob and cache, without the journal
+-- the blob and the cache without the journal
 abbrev pub without_journal : OwnedState → OwnedState
 without_journal s = record s { journal = None }
 

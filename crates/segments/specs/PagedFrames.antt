@@ -18,9 +18,9 @@ list_pages_touched P offset len =
     pages_touched P (offset / P * 32) (pages_touched P offset len * 32)
 
 -- what a read of a frame of so many bytes asks for: once at most each page of its first two bytes,
--- which have its length, and then once at most each page of it; and so of the list, for the digests
--- of these pages. A frame in one page is asked for as in one read: for that page once at most, and
--- for nothing if the page is held
+-- which have its length, and then once at most each page of the frame; and the pages of the list
+-- that have these pages' digests. A frame in one page is asked for as in one read: for that page
+-- once at most, and for nothing if the page is held.
 pub record AsksForFrame (offset len : ℕ) (old new : PagedState) : Type 0 where
   pub calls : let P = old.page_size in
       length new.reads
@@ -60,8 +60,8 @@ pub record WholeFrameFails (d : List ℕ → List ℕ) (offset : ℕ) (old new :
   pub fails : let rest = old.seal.len - offset in
       RangeFails d offset (min (frame_len front) rest) old new e
 
--- the frame that begins before the content's end can't be read: the read of its length fails, or
--- that of all of it
+-- the frame at this offset, which is before the content's end, can't be read: the read of its
+-- length fails, or that of all of it
 pub record FrameFails (d : List ℕ → List ℕ) (offset : ℕ) (old new : PagedState) (e : Error)
     : Type 0 where
   pub begins : offset < old.seal.len
@@ -75,6 +75,8 @@ PagedFrameAnswers d own offset old new (Ok found) = FrameAsks offset found old n
     × ReadsPagedFrame d own old.page_size old.seal offset found
 PagedFrameAnswers d own offset old new (Err e) = FrameFails d offset old new e
 
+-- a frame of a content is read: the content is the same, and the answer is as `PagedFrameAnswers`
+-- has it
 pub record PagedFrameGoes (d : List ℕ → List ℕ) (own : List ℕ → ℕ) (offset : ℕ)
     (old new : PagedState) (result : Result (Option Found) Error) : Type 0 where
   pub same : IsSameContent old new

@@ -33,9 +33,9 @@ use Rattle.segments.specs.declared.passing.PassedPage.{PassedPage}
 use Rattle.segments.specs.Seeks.{BehindFails, CountFails, IsBegin}
 use Rattle.segments.specs.declared.marked.Begin.{Begin}
 
--- a closed segment that is read by its pages: its number, its content, and whether the levels are
--- settled, since they were built again from the segment's file, or can't be; the root of its marks
--- that was kept, the marks, if they could be opened, and where the frame ended that was read last
+-- a closed segment that is read by its pages: its number, its content, and whether its levels are
+-- settled, since they were built again from the segment's file or can't be; the root of its marks
+-- that was kept, the marks if they could be opened, and where the frame ended that was read last
 pub record PagedSegmentState : Type 0 where
   pub number : ℕ
   pub content : PagedState
@@ -44,7 +44,7 @@ pub record PagedSegmentState : Type 0 where
   pub marks : Option MarksState
   pub ended : ℕ
 
--- a content has so many bytes that it isn't read by its pages
+-- a content has 2 ^ 50 bytes or more, which aren't read by their pages
 abbrev pub IsBeyondLimit : Seal → Type 0
 IsBeyondLimit seal = 2 ^ 50 ≤ seal.len
 
@@ -81,7 +81,8 @@ HasMarksRoot root (Paged kept) = kept.marks ≡ root
 abbrev pub IsKeptPaged : PagedSeal → Fingerprint → Type 0
 IsKeptPaged kept f = f ≡ Paged kept
 
--- an error of the content of the segment of this number, as the log answers it
+-- an error of the content of the segment of this number, as the log answers it: `Damaged` for
+-- damage, `System` for any other refusal of the system, and `OutOfMemory`
 abbrev pub IsToldAs : (number : ℕ) → pages.Error → Error → Type 0
 IsToldAs number causes.Damaged e = e ≡ errors.Damaged number
 IsToldAs number (causes.System x) e = (FileEndsEarly x × (e ≡ errors.Damaged number))
@@ -133,8 +134,9 @@ pub record IsRebuilt (d : List ℕ → List ℕ) (s t : PagedState) : Type 0 whe
   pub settles : IsSettling answered
   pub until : ReadsGoOn after t.reads
 
--- from the one state of a content to the other, something failed so, with this error, at the end.
--- Before it perhaps more was read, or the levels were built again
+-- from the one state of a content to the other something failed with this error, at the end: a read
+-- of a frame, or of a frame's length. Before it perhaps more was read, or the levels were built
+-- again.
 pub record HasFailedSince (d : List ℕ → List ℕ)
     (Fails : PagedState → PagedState → pages.Error → Type 0) (s t : PagedState)
     (error : pages.Error) : Type 0 where
@@ -145,7 +147,7 @@ pub record HasFailedSince (d : List ℕ → List ℕ)
   pub fails : Fails old t error
 
 -- from the one state of a content to the other, its levels couldn't be built again from its own
--- file, for this error
+-- file, with this error
 pub record HasFailedRebuild (d : List ℕ → List ℕ) (s t : PagedState) (error : pages.Error)
     : Type 0 where
   pub before : List SourceRead
@@ -154,9 +156,9 @@ pub record HasFailedRebuild (d : List ℕ → List ℕ) (s t : PagedState) (erro
   pub fails : RebuildGoes d s.page_size s.seal before after (Err error)
   pub until : ReadsGoOn after t.reads
 
--- something of a segment can't be read: it failed so, or the rebuild of the levels failed, or
--- memory was refused, and this is the log's error for the cause. Damage is answered only for a
--- segment whose levels are settled
+-- something of a segment can't be read: a read failed so, or the rebuild of the levels failed, or
+-- memory was refused, and this is the log's error for that cause. Damage is answered only for a
+-- segment whose levels are settled.
 pub record SegmentFailsSo (d : List ℕ → List ℕ)
     (Fails : PagedState → PagedState → pages.Error → Type 0) (s t : PagedSegmentState) (e : Error)
     : Type 0 where
@@ -207,7 +209,7 @@ pub record SettlesGoes (d : List ℕ → List ℕ) (s t : PagedSegmentState)
 
 -- ---- where a frame begins
 
--- in every content with this seal and with marks of this root it is so, unless a second preimage is
+-- in each content with this seal and with marks of this root it is so, unless a second preimage is
 -- at hand
 abbrev pub IsOfKept : (d : List ℕ → List ℕ) → (P : ℕ) → Seal → (root : List ℕ)
     → (List ℕ → Type 0) → Type 0
@@ -215,7 +217,8 @@ IsOfKept d P seal root is = (content : List ℕ) → IsSealOf d P content seal
     → HasMarks d P content seal.len root
     → is content ⊎ HasSecondPreimage d P content ⊎ HasMarksPreimage d P content
 
--- the same of a segment of which marks were kept, or none
+-- in each content with this segment's seal, and with marks of the root that was kept, it is so,
+-- unless a second preimage is at hand. Of a segment of which no marks were kept nothing is said.
 abbrev pub IsOfSegment : (d : List ℕ → List ℕ) → PagedSegmentState → (List ℕ → Type 0) → Type 0
 IsOfSegment d s is = (root : List ℕ) → s.marks_root ≡ Some root
     → IsOfKept d s.content.page_size s.content.seal root is
@@ -234,7 +237,7 @@ pub record AreItsMarks (d : List ℕ → List ℕ) (p : PagedSegmentState) (m : 
 abbrev pub IsPagedSegment : (d : List ℕ → List ℕ) → PagedSegmentState → Type 0
 IsPagedSegment d p = IfSome p.marks (λ m. AreItsMarks d p m)
 
--- no memory was refused: a file is at fault
+-- the cause of this error is a file, since no memory was refused
 abbrev pub IsOfFile : pages.Error → Type 0
 IsOfFile causes.OutOfMemory = ⊥
 IsOfFile e = Unit {0}
@@ -295,14 +298,14 @@ abbrev pub MarksPaged : PagedSegmentState → Result PagedSegmentState Error →
 MarksPaged s (Ok p) = IsPagedOf s.content.page_size s.number s.content.seal p
 MarksPaged s (Err e) = e ≡ errors.Layer layer.OutOfMemory
 
--- the same marks, of which perhaps more was read; or none
+-- a segment has the same marks, of which perhaps more was read; or it has none still
 abbrev pub HasSameMarks : (old new : Option MarksState) → Type 0
 HasSameMarks (Some m) (Some n) = AreSameMarks m n
 HasSameMarks None None = Unit {0}
 HasSameMarks old new = ⊥
 
--- it was to be found by the marks of a segment whether a frame begins at an offset. That failed, at
--- the end: a read of the marks, or one of the content for them
+-- whether a frame begins at an offset was to be found by the marks of a segment, and that failed,
+-- at the end: a read of the marks did, or one of the content for them
 pub record HasFailedCheck (d : List ℕ → List ℕ) (offset : ℕ) (t : PagedSegmentState)
     (e : pages.Error) : Type 0 where
   pub before : MarksState
@@ -329,6 +332,8 @@ CheckAnswers d offset s t (Ok true) = IsBeginBy d offset s
 CheckAnswers d offset s t (Ok false) = IsMidst d offset s
 CheckAnswers d offset s t (Err e) = HasFailedCheck d offset t e
 
+-- whether a frame begins at an offset of a segment is found: the segment is the same, perhaps more
+-- was read of its content and its marks, and the answer is as `CheckAnswers` has it
 pub record CheckGoes (d : List ℕ → List ℕ) (offset : ℕ) (s t : PagedSegmentState)
     (result : Result Bool pages.Error) : Type 0 where
   pub rest : t ≡ record s { content = t.content; marks = t.marks }
@@ -336,13 +341,13 @@ pub record CheckGoes (d : List ℕ → List ℕ) (offset : ℕ) (s t : PagedSegm
   pub marks : HasSameMarks s.marks t.marks
   pub answers : CheckAnswers d offset s t result
 
--- the marks of a segment can't be used: they couldn't be opened, or a read of them failed, or one
--- of the content for them
+-- the marks of a segment can't be used: they couldn't be opened, or a read of them failed, or a
+-- read of the content for them
 abbrev pub MarksFail : (d : List ℕ → List ℕ) → (offset : ℕ) → PagedSegmentState → Type 0
 MarksFail d offset t = (t.marks ≡ None)
     ⊎ ((e : pages.Error) × IsOfFile e × HasFailedCheck d offset t e)
 
--- where a read found a frame, one begins; or the marks can't be used
+-- if a read found a frame, one begins there; or the marks can't be used
 abbrev pub FoundBegins : (d : List ℕ → List ℕ) → (offset : ℕ) → (s t : PagedSegmentState)
     → Result (Option Found) Error → Type 0
 FoundBegins d offset s t (Ok (Some found)) =
@@ -405,6 +410,8 @@ abbrev pub CountStartAnswers : (d : List ℕ → List ℕ) → (n : ℕ) → (s 
 CountStartAnswers d n s (Ok b) = IsOfSegment d s (λ content. CanCountFrom content n b)
 CountStartAnswers d n s (Err e) = e ≡ causes.OutOfMemory
 
+-- a begin from which frame n of a segment can be counted is found: the segment is the same, perhaps
+-- more was read of its marks, and the answer is as `CountStartAnswers` has it
 pub record CountStartGoes (d : List ℕ → List ℕ) (n : ℕ) (s t : PagedSegmentState)
     (result : Result Begin pages.Error) : Type 0 where
   pub rest : t ≡ record s { marks = t.marks }
@@ -418,6 +425,8 @@ FindAnswers d n s t (Ok found) = IsOfSegment d s (λ content. IsNthOffset conten
 FindAnswers d n s t (Err e) =
     CountFails d 0 s.content t.content e ⊎ (e ≡ causes.OutOfMemory)
 
+-- frame n of a segment is searched for once: the segment is the same, perhaps more was read of its
+-- content and its marks, and the answer is as `FindAnswers` has it
 pub record FindGoes (d : List ℕ → List ℕ) (n : ℕ) (s t : PagedSegmentState)
     (result : Result (Option ℕ) pages.Error) : Type 0 where
   pub rest : t ≡ record s { content = t.content; marks = t.marks }
@@ -425,11 +434,11 @@ pub record FindGoes (d : List ℕ → List ℕ) (n : ℕ) (s t : PagedSegmentSta
   pub marks : HasSameMarks s.marks t.marks
   pub answers : FindAnswers d n s t result
 
--- frame n of a segment can't be found: the length of a frame can't be read
+-- the search for frame n of a segment fails, since the length of a frame can't be read
 abbrev pub SearchFails : (d : List ℕ → List ℕ) → (s t : PagedSegmentState) → Error → Type 0
 SearchFails d s t e = SegmentFailsSo d (CountFails d 0) s t e
 
--- where frame n of a segment begins, by the answer
+-- where frame n of a segment begins, by the answer; an error is one of `SearchFails`
 abbrev pub SegmentNthAnswers : (d : List ℕ → List ℕ) → (n : ℕ) → (s t : PagedSegmentState)
     → Result (Option ℕ) Error → Type 0
 SegmentNthAnswers d n s t (Ok found) = (root : List ℕ) × (s.marks_root ≡ Some root)
@@ -451,7 +460,7 @@ pub record SegmentNthGoes (d : List ℕ → List ℕ) (n : ℕ) (s t : PagedSegm
 
 -- ---- a page that is passed
 
--- the frames of a page that are passed were counted, or why they couldn't be
+-- the frames were counted that are passed with a page; or this is why they couldn't be
 abbrev pub CountsPassed : (d : List ℕ → List ℕ) → (offset : ℕ) → (s t : PagedSegmentState)
     → Option ℕ → Type 0
 CountsPassed d offset s t (Some n) = IsOfSegment d s (λ content.
@@ -470,7 +479,7 @@ PassesIn d offset s t p = (s.marks_root ≡ None → ⊥)
     × IsOfSegment d s (λ content. IsPassedTo s.content.page_size content offset p.to)
     × CountsPassed d offset s t p.frames))
 
--- a page of a segment can't be passed: a read of the marks failed for this cause
+-- a page of a segment can't be passed: a read of the marks failed with this error
 pub record HasFailedPass (d : List ℕ → List ℕ) (offset : ℕ) (s t : PagedSegmentState)
     (cause : pages.Error) : Type 0 where
   pub before : MarksState
@@ -486,7 +495,7 @@ PassFails d offset s t e = ((s.marks ≡ None) × (s.marks_root ≡ None → ⊥
     × (e ≡ errors.Damaged s.number))
     ⊎ ((cause : pages.Error) × HasFailedPass d offset s t cause × IsToldAs s.number cause e)
 
--- a page of a segment is passed, by the answer
+-- a page of a segment is passed, by the answer; an error is one of `PassFails`
 abbrev pub SegmentPassAnswers : (d : List ℕ → List ℕ) → (offset : ℕ) → (s t : PagedSegmentState)
     → Result PassedPage Error → Type 0
 SegmentPassAnswers d offset s t (Ok p) = PassesIn d offset s t p
@@ -503,15 +512,16 @@ pub record SegmentPassGoes (d : List ℕ → List ℕ) (offset : ℕ) (s t : Pag
 
 -- ---- by what the manifest keeps
 
--- in every content of this fingerprint, and with the marks that were kept, it is so, unless a
--- second preimage is at hand. A segment of which no marks were kept is none of which this is said
+-- in each content of this fingerprint, with the marks that were kept, it is so, unless a second
+-- preimage is at hand. It is said of no segment of which no marks were kept.
 abbrev pub IsOfFingerprint : (d : List ℕ → List ℕ) → (P : ℕ) → (List ℕ → Type 0) → Fingerprint
     → Type 0
 IsOfFingerprint d P is (Whole kept) = ⊥
 IsOfFingerprint d P is (Paged kept) = (root : List ℕ) × (kept.marks ≡ Some root)
     × IsOfKept d P kept.seal root is
 
--- the same, but of a segment with marks alone
+-- it is so in each content of a segment of which marks were kept, unless a second preimage is at
+-- hand; of one without marks nothing is said
 abbrev pub IfMarked : (d : List ℕ → List ℕ) → (P : ℕ) → (List ℕ → Type 0) → Fingerprint
     → Type 0
 IfMarked d P is (Whole kept) = Unit {0}

@@ -13,8 +13,8 @@ use Rattle.segments.specs.declared.passing.PassedPage.{PassedPage}
 abbrev pub next_page : (P offset : ℕ) → ℕ
 next_page P offset = (offset / P + 1) * P
 
--- one goes on there: the first frame behind the offset's page begins there, or the content ends
--- and none begins behind the page
+-- the place to go on behind the page of an offset: the first frame behind the page begins there; or
+-- the content ends there, and none begins behind the page
 abbrev pub IsPassedTo : (P : ℕ) → List ℕ → (offset to : ℕ) → Type 0
 IsPassedTo P content offset to = let n = begins_before content (next_page P offset) in
     to ≡ min (frame_begin content n) (length content)
@@ -34,8 +34,9 @@ PassedFrames d offset old new before after None =
     ((old.len ≤ next_page old.bytes.page_size offset) × (new ≡ old) × (after ≡ before))
     ⊎ ((e : Error) × (e ≢ OutOfMemory) × BehindFails d offset old new before after e)
 
--- a page is passed, by the answer: or the mark of a page behind it can't be read, or memory was
--- refused as the frames before the offset were to be counted
+-- a page is passed, by the answer: at Ok with the place to go on and how many frames were passed.
+-- An error is that the mark of a page behind it can't be read, or that memory was refused as the
+-- frames before the offset were to be counted.
 abbrev pub PassPageAnswers : (List ℕ → List ℕ) → (offset : ℕ) → (old new : MarksState)
     → (before after : PagedState) → Result PassedPage Error → Type 0
 PassPageAnswers d offset old new before after (Ok p) = (offset < p.to) × (p.to ≤ old.len)

@@ -15,7 +15,8 @@ use Rattle.segments.specs.Manifest.{closed_at, open_in}
 use Rattle.segments.specs.PagedReads.{HasDamagedFile, HasFailedPass, HasNoMarks, IsDamage}
 use Rattle.segments.specs.PagedReads.{PagedSegmentState, PassesIn}
 
--- what was passed from an offset on
+-- what was passed from an offset on: how many bytes of the segment, and how many frames, if that is
+-- known
 abbrev pub passed_by : (offset : ℕ) → PassedPage → Passed
 passed_by offset p = record { frames = p.frames; bytes = p.to - offset }
 
@@ -25,8 +26,8 @@ passed_to segment offset len = if nat_lt offset len
     then record { segment = segment; offset = offset }
     else record { segment = segment + 1; offset = 0 }
 
--- a page of a closed segment was to be passed, which has this seal and these marks, and a read of
--- the marks failed with damage. The segment was read last
+-- a page was to be passed of a closed segment that has this seal and these marks, and a read of the
+-- marks failed with damage. The segment is the one that was read last.
 pub record HasDamagedPass (d : List ℕ → List ℕ) (P : ℕ) (kept : PagedSeal) (offset : ℕ)
     (segment : ℕ) (t : LogState) : Type 0 where
   pub old : PagedSegmentState
@@ -39,8 +40,8 @@ pub record HasDamagedPass (d : List ℕ → List ℕ) (P : ℕ) (kept : PagedSea
   pub damage : IsDamage error
   pub last : IsReadLast segment new t
 
--- a page of a closed segment was passed, which has this seal and these marks. The segment was read
--- last
+-- a page was passed of a closed segment that has this seal and these marks. The segment is the one
+-- that was read last.
 pub record HasPassedPage (d : List ℕ → List ℕ) (P : ℕ) (kept : PagedSeal) (offset : ℕ)
     (p : PassedPage) (segment : ℕ) (t : LogState) : Type 0 where
   pub old : PagedSegmentState
@@ -58,8 +59,7 @@ IsPassedIn d P offset p len segment t (Whole kept) = ⊥
 IsPassedIn d P offset p len segment t (Paged kept) =
     (len ≡ kept.seal.len) × HasPassedPage d P kept offset p segment t
 
--- the closed segment of this number, which is the one that was read last, has marks that couldn't
--- be opened
+-- the closed segment that was read last has this number, and marks that couldn't be opened
 pub record LastIsUnopened (segment : ℕ) (t : LogState) : Type 0 where
   pub before : List PagedSegmentState
   pub last : PagedSegmentState

@@ -32,6 +32,6 @@ abbrev pub kept_after : (most : ℕ) → PagedSegmentState → List PagedSegment
     → List PagedSegmentState
 kept_after most p recent = drop (length recent + 1 - most) recent ++ p ∷ []
 
--- the segments from this one on
+-- of the closed segments that are kept open, those from this number on
 abbrev pub kept_from : (first : ℕ) → List PagedSegmentState → List PagedSegmentState
 kept_from first recent = filter (λ p. nat_le first p.number) recent

@@ -20,12 +20,12 @@ use Rattle.segments.specs.Log.{closed_records, log_records}
 abbrev pub place_at : (segment offset : ℕ) → Place
 place_at segment offset = record { segment = segment; offset = offset }
 
--- the content of a segment, by what the closed ones held and by the content of the open one
+-- the content of a segment: of a closed one what it held, and of the open one its content
 abbrev pub held_content : (held : ℕ → List ℕ) → ListingState → (content : List ℕ) → ℕ → List ℕ
 held_content held l content segment =
     if nat_lt segment (open_in l) then held segment else content
 
--- the records after a segment: those of the closed ones that follow, and those of the open one
+-- the records after a segment: those of the closed ones that follow, and then those of the open one
 abbrev pub records_after : (own : List ℕ → ℕ) → (held : ℕ → List ℕ) → ListingState
     → (content : List ℕ) → ℕ → List (List ℕ)
 records_after own held l content segment =
@@ -34,7 +34,7 @@ records_after own held l content segment =
     ++ records own content
     else []
 
--- the records from a place on
+-- the records from a place on, by a listing
 abbrev pub records_at : (own : List ℕ → ℕ) → (held : ℕ → List ℕ) → ListingState
     → (content : List ℕ) → Place → List (List ℕ)
 records_at own held l content p =
@@ -50,8 +50,8 @@ records_from own held s p = records_at own held s.listing (content_now s.current
 abbrev pub ComesFirst : (own : List ℕ → ℕ) → LogState → Place → Type 0
 ComesFirst own s p = (held : ℕ → List ℕ) → records_from own held s p ≡ log_records own held s
 
--- whatever the closed segments held, so long as it fits what was kept of them: there are just these
--- records from the one place to the other, or what a closed segment held has a twin
+-- whatever the closed segments held, if it fits what was kept of them: there are just these records
+-- from the one place to the other, or what a closed segment held has a twin
 abbrev pub StandBy : (sum own : List ℕ → ℕ) → (d : List ℕ → List ℕ) → ℕ → ListingState
     → (content : List ℕ)
     → List (List ℕ) → (from to : Place) → Type 0
@@ -71,18 +71,19 @@ StandBetween sum own d s these from to =
 abbrev pub IsEnd : (own : List ℕ → ℕ) → LogState → Place → Type 0
 IsEnd own s p = (held : ℕ → List ℕ) → records_from own held s p ≡ []
 
--- a record was found: none stands before it, and it alone before the place behind it
+-- a record was found: none stands before it from the first place on, and it alone stands before the
+-- place behind it
 abbrev pub IsNextAt : (sum own : List ℕ → ℕ) → (d : List ℕ → List ℕ) → LogState
     → (from at behind : Place) → List ℕ
     → Type 0
 IsNextAt sum own d s from at behind bytes = StandBetween sum own d s [] from at
     × StandBetween sum own d s (bytes ∷ []) at behind
 
--- how far the end is, at most; each step forward makes this number smaller
+-- how far the end is from a place, at most; each step forward makes this number smaller
 abbrev pub far_from : LogState → Place → ℕ
 far_from s p = (open_in s.listing + 1 - p.segment) * 18446744073709551616 - p.offset
 
--- a place behind another one, in a segment of the log
+-- a place behind another one, in a segment of the log, and so nearer to the end
 pub record IsBehind (s : LogState) (from to : Place) : Type 0 where
   pub segment : from.segment ≤ to.segment
   pub inside : to.segment ≤ open_in s.listing
@@ -122,7 +123,7 @@ NextGoes sum own d s t old new (Ok None) = StandBetween sum own d s [] old new �
 NextGoes sum own d s t old new (Ok (Some r)) = IsNextAt sum own d s old r.0 new r.1
 NextGoes sum own d s t old new (Err e) = (new ≡ old) × IsRefusedFrom sum own d s t old e
 
--- where a read of the next record leaves the place: behind the place that was lent, or there, at
+-- where a read of the next record leaves the place: behind the place that was given, or there, at
 -- the end of the log
 abbrev pub MovesPlace : {T : Type 0} → LogState → (old new : Place) → Option T → Type 0
 MovesPlace s old new (Some r) = IsBehind s old new
@@ -130,7 +131,7 @@ MovesPlace s old new None = IsFrom s old new
 
 -- ---- many records at once
 
--- how many bytes these records have that were found
+-- how many bytes these records have together
 abbrev pub found_bytes : List (Place × List ℕ) → ℕ
 found_bytes found = sum_by (λ (r : Place × List ℕ). length r.1) found
 
@@ -153,10 +154,10 @@ pub record IsTooMuch (sum own : List ℕ → ℕ) (d : List ℕ → List ℕ) (m
   pub next : IsNextAt sum own d s p at behind bytes
   pub more : most < before + length bytes
 
--- the records from the one place on, one behind another, and no other stands between that place
--- and the new one. They have `most` bytes at most, or one stands alone. The new place is the end of
--- the log; or it is the one behind the last record, of which there is one at least. Then these have
--- more than `most` bytes already, or the next one is too much, or it can't be read
+-- the records from the one place on, one behind another, and no other stands between that place and
+-- the new one. They have `most` bytes at most, or there is one alone. The new place is the end of
+-- the log; or it is the one behind the last record, of which there is one at least, since these
+-- have more than `most` bytes already, or the next one is too much, or it can't be read.
 pub record HasMany (sum own : List ℕ → ℕ) (d : List ℕ → List ℕ) (most : ℕ) (s t : LogState)
     (old new : Place) (found : List (Place × List ℕ)) : Type 0 where
   pub behind : Place

@@ -22,7 +22,7 @@ PassesTo d P seal first offset frames there = (content : List ℕ) → IsSealOf 
     → ((n : ℕ) → frame_begin content n ≡ first → FramesBegin content offset n frames there)
     ⊎ HasSecondPreimage d P content
 
--- the two bytes of the length of a frame can't be read, which begins between
+-- between these offsets begins a frame, the two bytes of whose length can't be read
 abbrev pub LengthFails : (List ℕ → List ℕ) → (first offset : ℕ) → (old new : PagedState)
     → Error → Type 0
 LengthFails d first offset old new e =
@@ -40,6 +40,8 @@ abbrev pub AsksForOnePage : (first offset : ℕ) → (old new : PagedState) → 
 AsksForOnePage first offset old new = (page : ℕ) → page * old.page_size ≤ first
     → offset < page * old.page_size + old.page_size → length new.reads ≤ length old.reads + 1
 
+-- frames of a content are passed up to an offset: the content is the same, one page is asked for if
+-- they begin in one, and the answer is as `PassAnswers` has it
 pub record PassGoes (d : List ℕ → List ℕ) (first offset : ℕ) (old new : PagedState)
     (result : Result (ℕ × ℕ) Error) : Type 0 where
   pub same : IsSameContent old new
@@ -48,26 +50,26 @@ pub record PassGoes (d : List ℕ → List ℕ) (first offset : ℕ) (old new : 
 
 -- ---- begins
 
--- in every content with this seal and these marks it is so, unless a second preimage is at hand
+-- in each content with this seal and these marks it is so, unless a second preimage is at hand
 abbrev pub IsOfMarked : (List ℕ → List ℕ) → Seal → MarksState → ((P : ℕ) → List ℕ → Type 0)
     → Type 0
 IsOfMarked d seal m is = let P = m.bytes.page_size in (content : List ℕ)
     → IsSealOf d P content seal → HasMarks d P content m.len m.root
     → is P content ⊎ HasSecondPreimage d P content ⊎ HasMarksPreimage d P content
 
--- a frame begins there, the first at this offset or behind it; if none begins in the pages, it is
--- told at their end
+-- a frame begins at this place: the first at an offset or behind it. If none begins there in the
+-- pages, the place is their end.
 pub record IsFirstBehind (P : ℕ) (content : List ℕ) (offset : ℕ) (b : Begin) : Type 0 where
   pub number : b.number ≡ begins_before content offset
   pub there : let n = begins_before content offset in
       b.offset ≡ min (frame_begin content n) (pages_of_len P (length content) * P)
 
--- a frame begins at this offset
+-- a frame of a content begins at this offset
 abbrev pub IsBegin : (content : List ℕ) → (offset : ℕ) → Type 0
 IsBegin content offset = (n : ℕ) × (frame_begin content n ≡ offset)
 
--- the length of a frame can't be read, which begins in the offset's page before the offset. The
--- first one that begins there is known by its mark
+-- the length can't be read of a frame that begins in the offset's page before the offset. The first
+-- frame that begins in that page is known by its mark.
 abbrev pub BeforeFails : (List ℕ → List ℕ) → (offset : ℕ) → MarksState
     → (before after : PagedState) → Error → Type 0
 BeforeFails d offset old before after e = let P = old.bytes.page_size in
@@ -75,8 +77,8 @@ BeforeFails d offset old before after e = let P = old.bytes.page_size in
     × IsOfMarks d old (λ Q content. IsFirstFrom Q content (offset / Q) b)
     × LengthFails d b.offset offset before after e
 
--- no begin is found: a mark of the offset's page or behind it can't be read, or the length of a
--- frame that begins in that page before the offset can't
+-- no begin is found: a mark of the offset's page or behind it can't be read, or the length can't be
+-- read of a frame that begins in that page before the offset
 abbrev pub BehindFails : (List ℕ → List ℕ) → (offset : ℕ) → (old new : MarksState)
     → (before after : PagedState) → Error → Type 0
 BehindFails d offset old new before after e = let P = old.bytes.page_size in
@@ -107,6 +109,8 @@ IsBeginAnswers d offset old new before after (Ok is) =
 IsBeginAnswers d offset old new before after (Err e) =
     BehindFails d offset old new before after e
 
+-- whether a frame begins at an offset is found: the marks and the content are the same, the content
+-- was read once at most, and the answer is as `IsBeginAnswers` has it
 pub record IsBeginGoes (d : List ℕ → List ℕ) (offset : ℕ) (old new : MarksState)
     (before after : PagedState) (result : Result Bool Error) : Type 0 where
   pub same : AreSameMarks old new
@@ -123,7 +127,7 @@ CountsTo d P seal first frames there = (content : List ℕ) → IsSealOf d P con
     → ((n : ℕ) → frame_begin content n ≡ first → frame_begin content (n + frames) ≡ there)
     ⊎ HasSecondPreimage d P content
 
--- the two bytes of the length of a frame can't be read, which begins at an offset or behind it
+-- the two bytes can't be read of the length of a frame that begins at this offset or behind it
 abbrev pub CountFails : (List ℕ → List ℕ) → (first : ℕ) → (old new : PagedState) → Error → Type 0
 CountFails d first old new e = (at : ℕ) × (first ≤ at) × RangeFails d at 2 old new e
 
@@ -136,6 +140,8 @@ CountAnswers d first count old new (Ok r) = (r.0 ≤ count) × (first ≤ r.1)
     × CountsTo d old.page_size old.seal first (count - r.0) r.1
 CountAnswers d first count old new (Err e) = CountFails d first old new e
 
+-- so many frames of a content are passed: the content is the same, and the answer is as
+-- `CountAnswers` has it
 pub record CountGoes (d : List ℕ → List ℕ) (first count : ℕ) (old new : PagedState)
     (result : Result (ℕ × ℕ) Error) : Type 0 where
   pub same : IsSameContent old new

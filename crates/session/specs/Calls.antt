@@ -72,7 +72,7 @@ KeepsUncut was now =
     let left = if cuts then map (λ r. None) was.replays else was.replays in
     now ≡ record was { writer = now.writer; replays = left }
 
--- the contract of a call that takes the writer: what it answers; and whatever that is, what holds
+-- the contract of a call that takes the writer: what it answers; and, whatever that is, what holds
 -- at each of its moments, and what it costs
 pub record Says (Goes Owed Costs : Type 0) : Type 0 where
   pub goes : Goes
@@ -85,7 +85,7 @@ pub record IsClosed (now : Option WriterState) (old new : Life) (reply : Reply) 
   pub writer : now ≡ None
   pub life : new ≡ old
 
--- an append
+-- the contract of an append, by its answer
 abbrev pub AppendSays : (List ℕ → ℕ) → WriterState → List ℕ → (cache after : CacheState) → Life
     → Life → Result (WriterState × ℕ) Error → Type 0
 AppendSays sum w bytes cache after old new result =
@@ -93,7 +93,8 @@ AppendSays sum w bytes cache after old new result =
     Says (AppendGoes sum w bytes old new result) (Owes sum w all cache after old new)
     (AppendCosts w bytes cache after old new result)
 
--- an append by a session with this writer, or none
+-- an append by a session, by its writer and the reply: without a writer it is `Closed`; otherwise
+-- the reply is that of the call, which leaves a writer or none
 abbrev pub DidAppend : (List ℕ → ℕ) → Option WriterState → Option WriterState → List ℕ
     → (cache after : CacheState) → Life → Life → Reply → Type 0
 DidAppend sum None now bytes cache after old new reply =
@@ -105,8 +106,8 @@ DidAppend sum (Some w) now bytes cache after old new (Fault e) =
     (now ≡ None) × AppendSays sum w bytes cache after old new (Err e)
 DidAppend sum (Some w) now bytes cache after old new _ = ⊥
 
--- a try to append within the capacity, by a session with this writer, or none: a writer that took
--- the bytes has buffered them, and else it is as it was
+-- a try to append within the capacity, by a session's writer and the reply: a writer that took the
+-- bytes has buffered them, and otherwise it is as it was; without a writer the reply is `Closed`
 abbrev pub TriedAppend : (List ℕ → ℕ) → Option WriterState → Option WriterState → List ℕ → Reply
     → Type 0
 TriedAppend sum None now bytes reply = (reply ≡ Closed) × (now ≡ None)
@@ -119,7 +120,7 @@ TriedAppend sum (Some w) now bytes (Fault e) =
     (v : WriterState) × (now ≡ Some v) × TryAppendGoes w bytes v (Err e)
 TriedAppend sum (Some w) now bytes _ = ⊥
 
--- a sync
+-- the contract of a sync, by its answer
 abbrev pub SyncSays : (List ℕ → ℕ) → WriterState → (cache after : CacheState) → Life → Life
     → Result WriterState Error → Type 0
 SyncSays sum w cache after old new result =
@@ -127,6 +128,8 @@ SyncSays sum w cache after old new result =
     Says (SyncAllGoes sum w old new result) (Owes sum w all cache after old new)
     (SyncCosts w cache after old new result)
 
+-- a sync by a session, by its writer and the reply: without a writer it is `Closed`; otherwise the
+-- reply is that of the call, which leaves a writer or none
 abbrev pub DidSync : (List ℕ → ℕ) → Option WriterState → Option WriterState
     → (cache after : CacheState) → Life → Life → Reply → Type 0
 DidSync sum None now cache after old new reply = IsClosed now old new reply × (after ≡ cache)
@@ -156,7 +159,7 @@ abbrev pub names_after : StartedSync → List ℕ → List ℕ
 names_after AllDone names = names
 names_after (Named name) names = with_name name names
 
--- there was no memory for the name: nothing was done
+-- memory for the name was refused, and nothing was done
 pub record NamesHadNoRoom (e : Error) (w : WriterState) (now : Option WriterState)
     (names more : List ℕ) (cache after : CacheState) (old new : Life) : Type 0 where
   pub fault : e ≡ OutOfMemory
@@ -165,7 +168,7 @@ pub record NamesHadNoRoom (e : Error) (w : WriterState) (now : Option WriterStat
   pub cached : after ≡ cache
   pub life : new ≡ old
 
--- a start of a sync
+-- the contract of a start of a sync, by its answer
 abbrev pub StartSays : (List ℕ → ℕ) → WriterState → (cache after : CacheState) → Life → Life
     → Result (WriterState × StartedSync) Error → Type 0
 StartSays sum w cache after old new result =
@@ -173,7 +176,7 @@ StartSays sum w cache after old new result =
     Says (StartSyncGoes sum w old new result) (Owes sum w all cache after old new)
     (StartSyncCosts w cache after old new result)
 
--- a start of a sync by a session with this writer, or none, and these names
+-- a start of a sync by a session, by its writer, its names and the reply
 abbrev pub DidStartSync : (List ℕ → ℕ) → (was now : Option WriterState) → (names more : List ℕ)
     → (cache after : CacheState) → Life → Life → Reply → Type 0
 DidStartSync sum None now names more cache after old new reply =
@@ -186,12 +189,15 @@ DidStartSync sum (Some w) now names more cache after old new (Fault e) =
     ⊎ NamesHadNoRoom e w now names more cache after old new
 DidStartSync sum (Some w) now names more cache after old new _ = ⊥
 
--- a wait for the sync that the writer started last, which uses no cache
+-- the contract of a wait for the sync that the writer started last, by its answer; it uses no cache
 abbrev pub WaitSays : (List ℕ → ℕ) → WriterState → Life → Life → Result WriterState Error → Type 0
 WaitSays sum w old new result =
     Says (WaitForSyncGoes sum w old new result) (OwesWaiting sum w old new)
     (WaitForSyncCosts w old new result)
 
+-- a wait by a session for the sync that its writer started last, by the writer and the reply:
+-- without a writer it is `Closed`; otherwise the reply is that of the call, which leaves a writer
+-- or none
 abbrev pub Waits : (List ℕ → ℕ) → Option WriterState → Option WriterState → Life → Life → Reply
     → Type 0
 Waits sum None now old new reply = IsClosed now old new reply
@@ -211,24 +217,24 @@ DidWaitFor false name old new reply = (reply ≡ NoSuch) × (new ≡ old)
 abbrev pub is_given : List ℕ → (name : ℕ) → Bool
 is_given names name = list_any (λ n. nat_eq n name) names
 
--- whether a sync has something to do
+-- the reply to the question whether a sync has something to do
 abbrev pub DidNeeds : Option WriterState → Reply → Type 0
 DidNeeds None reply = reply ≡ Closed
 DidNeeds (Some w) reply = reply ≡ Answer (nat_lt 0 (sync_calls w))
 
--- the end of the recovery
+-- the end of a session's recovery, by its phase and its writer: from then on the writer appends
 abbrev pub DidBegin : Option WriterState → SessionState → SessionState → Reply → Type 0
 DidBegin None was now reply = (reply ≡ Closed) × (now ≡ was)
 DidBegin (Some w) was now reply = (reply ≡ Done) × (now ≡ record was { recovering = false })
 
--- a truncate to n bytes
+-- the contract of a truncate to n bytes, by its answer
 abbrev pub TruncateSays : (List ℕ → ℕ) → WriterState → (n : ℕ) → (cache after : CacheState) → Life
     → Life → Result WriterState Error → Type 0
 TruncateSays sum w n cache after old new result =
     Says (TruncateGoes sum n w cache after old new result)
     (OwesCutting sum n w cache after old new) (TruncateCosts n w cache after old new result)
 
--- a truncate to n bytes by a session with a writer in recovery
+-- a truncate to n bytes by a session with this writer in recovery, by the reply
 abbrev pub TruncatesWriter : (List ℕ → ℕ) → WriterState → Option WriterState → (n : ℕ)
     → (cache after : CacheState) → Life → Life → Reply → Type 0
 TruncatesWriter sum w now n cache after old new (Length m) =
@@ -238,7 +244,7 @@ TruncatesWriter sum w now n cache after old new (Fault e) =
     (now ≡ None) × TruncateSays sum w n cache after old new (Err e)
 TruncatesWriter sum w now n cache after old new _ = ⊥
 
--- a truncate, by whether the session is in recovery, and its writer
+-- a truncate by a session, by its phase, its writer and the reply
 abbrev pub DidTruncate : (List ℕ → ℕ) → (recovering : Bool) → Option WriterState
     → Option WriterState → (n : ℕ) → (cache after : CacheState) → Life → Life → Reply → Type 0
 DidTruncate sum recovering None now n cache after old new reply =
@@ -248,7 +254,7 @@ DidTruncate sum true (Some w) now n cache after old new reply =
 DidTruncate sum false (Some w) now n cache after old new reply =
     (reply ≡ NotRecovering) × (now ≡ Some w) × (new ≡ old) × (after ≡ cache)
 
--- the size
+-- the reply to the question for the size
 abbrev pub Sized : Option WriterState → Reply → Type 0
 Sized None reply = reply ≡ Closed
 Sized (Some w) reply = reply ≡ Length (size_of w)
@@ -261,7 +267,7 @@ pub record ReadSays (sum : List ℕ → ℕ) (t : Tail) (cache after : CacheStat
       result
   pub costs : ReadCosts sum t (offset, len) cache after old new result
 
--- a read's bytes, or why it is refused
+-- the reply to a read: its bytes, or why it is refused
 abbrev pub ReadsBytes : (List ℕ → ℕ) → Tail → (cache after : CacheState) → (offset len : ℕ) → Life
     → Life → Reply → Type 0
 ReadsBytes sum t cache after offset len old new (Bytes bytes) =
@@ -270,13 +276,14 @@ ReadsBytes sum t cache after offset len old new (Fault e) =
     ReadSays sum t cache after offset len old new (Err e)
 ReadsBytes sum t cache after offset len old new _ = ⊥
 
--- a read of a writer's blob, or of a snapshot: the blob is only looked at
+-- a read of a writer's blob, or of a snapshot: its reply is as `ReadsBytes` has it, and the blob is
+-- only looked at
 pub record RangeStepGoes (sum : List ℕ → ℕ) (t : Tail) (cache after : CacheState) (offset len : ℕ)
     (old new : Life) (reply : Reply) : Type 0 where
   pub reads : ReadsBytes sum t cache after offset len old new reply
   pub looked : Looked old new
 
--- a read
+-- a read by a session, by its writer and the reply
 abbrev pub DidRead : (List ℕ → ℕ) → Option WriterState → (cache after : CacheState)
     → (offset len : ℕ) → Life → Life → Reply → Type 0
 DidRead sum None cache after offset len old new reply =
@@ -290,7 +297,7 @@ pub record ReadUpToSays (sum : List ℕ → ℕ) (t : Tail) (cache after : Cache
   pub goes : ReadUpToGoes sum t cache offset len old new result
   pub costs : ReadCosts sum t (range_up_to t offset len) cache after old new result
 
--- at most so many bytes, or why a read of them is refused
+-- the reply to a read of at most so many bytes: the bytes, or why it is refused
 abbrev pub ReadsBytesUpTo : (List ℕ → ℕ) → Tail → (cache after : CacheState) → (offset len : ℕ)
     → Life → Life → Reply → Type 0
 ReadsBytesUpTo sum t cache after offset len old new (Bytes bytes) =
@@ -299,12 +306,14 @@ ReadsBytesUpTo sum t cache after offset len old new (Fault e) =
     ReadUpToSays sum t cache after offset len old new (Err e)
 ReadsBytesUpTo sum t cache after offset len old new _ = ⊥
 
+-- a read of at most so many bytes: its reply is as `ReadsBytesUpTo` has it, and the blob is only
+-- looked at
 pub record ReadsUpToRange (sum : List ℕ → ℕ) (t : Tail) (cache after : CacheState)
     (offset len : ℕ) (old new : Life) (reply : Reply) : Type 0 where
   pub reads : ReadsBytesUpTo sum t cache after offset len old new reply
   pub looked : Looked old new
 
--- a read of at most so many bytes
+-- a read of at most so many bytes by a session, by its writer and the reply
 abbrev pub DidReadUpTo : (List ℕ → ℕ) → Option WriterState → (cache after : CacheState)
     → (offset len : ℕ) → Life → Life → Reply → Type 0
 DidReadUpTo sum None cache after offset len old new reply =
@@ -313,8 +322,8 @@ DidReadUpTo sum (Some w) cache after offset len old new reply =
     ReadsUpToRange sum (tail_of w) cache after offset len old new reply
 
 -- the reply to a read that asks no device: the bytes, if they are within the size and the cache
--- holds the pages of those below the tip; else `Nothing`; or, for bytes within the size,
--- OutOfMemory
+-- holds the pages of those below the tip; `OutOfMemory`, only for bytes within the size; otherwise
+-- `Nothing`
 abbrev pub TriedBytes : WriterState → CacheState → (offset len : ℕ) → Reply → Type 0
 TriedBytes w cache offset len (Bytes bytes) =
     TryReadGoes (tail_of w) (offset, len) cache bytes.items true
@@ -323,13 +332,13 @@ TriedBytes w cache offset len Nothing =
 TriedBytes w cache offset len (Fault e) = (e ≡ OutOfMemory) × (offset + len ≤ size_of w)
 TriedBytes w cache offset len _ = ⊥
 
--- a read that asks no device
+-- a read that asks no device, by a session's writer and the reply
 abbrev pub DidTryRead : Option WriterState → CacheState → (offset len : ℕ) → Reply → Type 0
 DidTryRead None cache offset len reply = reply ≡ Closed
 DidTryRead (Some w) cache offset len reply = TriedBytes w cache offset len reply
 
--- the bytes of ranges, joined, and how many of the ranges needed no device; or why a read of them
--- is refused: the first that can't be read decides, before anything is asked for
+-- the reply to a read of ranges: their bytes joined, and how many of the ranges needed no device;
+-- or why it is refused: the first range that can't be read decides, before anything is asked for
 abbrev pub ReadsRanges : (List ℕ → ℕ) → WriterState → CacheState → List (ℕ × ℕ) → Life → Life
     → Reply → Type 0
 ReadsRanges sum w cache ranges old new (Served count bytes) =
@@ -358,7 +367,7 @@ pub record ReadRangesSays (sum : List ℕ → ℕ) (w : WriterState) (cache afte
   pub costs : CostsRanges sum w cache after ranges old new reply
   pub looked : Looked old new
 
--- a read of ranges, by the writer, and whether one call can take them
+-- a read of ranges by a session, by its writer, whether one call can take the ranges, and the reply
 abbrev pub DidReadRanges : (List ℕ → ℕ) → Option WriterState → (fit : Bool)
     → (cache after : CacheState) → List (ℕ × ℕ) → Life → Life → Reply → Type 0
 DidReadRanges sum None fit cache after ranges old new reply =
@@ -368,14 +377,15 @@ DidReadRanges sum (Some w) false cache after ranges old new reply =
 DidReadRanges sum (Some w) true cache after ranges old new reply =
     ReadRangesSays sum w cache after ranges old new reply
 
--- the numbers of the ranges that need the device, of all where one can't be read; or there is no
--- memory
+-- the reply to a question for ranges that asks no device: the numbers of the ranges that need the
+-- device, of all if one can't be read; or memory was refused
 abbrev pub TriedRanges : WriterState → CacheState → List (ℕ × ℕ) → Reply → Type 0
 TriedRanges w cache ranges (Missed numbers) = Misses (tail_of w) ranges cache numbers.items
 TriedRanges w cache ranges (Fault e) = e ≡ OutOfMemory
 TriedRanges w cache ranges _ = ⊥
 
--- a question for ranges that asks no device, by the writer, and whether one call can take them
+-- a question for ranges that asks no device, by a session's writer, whether one call can take the
+-- ranges, and the reply
 abbrev pub DidTryReadRanges : Option WriterState → (fit : Bool) → CacheState → List (ℕ × ℕ) → Reply
     → Type 0
 DidTryReadRanges None fit cache ranges reply = reply ≡ Closed
@@ -389,6 +399,7 @@ pub record ScanSays (sum : List ℕ → ℕ) (w : WriterState) (proven most buff
   pub goes : ScanFirstGoes sum w proven most old new result
   pub costs : ScanFirstCosts sum w proven most buffer_size old new
 
+-- the reply to a scan: how many bytes it counts, or why it is refused
 abbrev pub ScanCounts : (List ℕ → ℕ) → WriterState → (proven most buffer_size : ℕ) → Life → Life
     → Reply → Type 0
 ScanCounts sum w proven most buffer_size old new (Length n) =
@@ -397,12 +408,13 @@ ScanCounts sum w proven most buffer_size old new (Fault e) =
     ScanSays sum w proven most buffer_size old new (Err e)
 ScanCounts sum w proven most buffer_size old new _ = ⊥
 
+-- a scan: its reply is as `ScanCounts` has it, and the blob is only looked at
 pub record ScansBlob (sum : List ℕ → ℕ) (w : WriterState) (proven most buffer_size : ℕ)
     (old new : Life) (reply : Reply) : Type 0 where
   pub counts : ScanCounts sum w proven most buffer_size old new reply
   pub looked : Looked old new
 
--- a scan
+-- a scan by a session, by its writer and the reply
 abbrev pub DidScan : (List ℕ → ℕ) → Option WriterState → (proven most buffer_size : ℕ) → Life
     → Life → Reply → Type 0
 DidScan sum None proven most buffer_size old new reply = (reply ≡ Closed) × (new ≡ old)
@@ -419,7 +431,7 @@ RefusesRoom size offset len _ = ⊥
 
 -- ---- steps of snapshots
 
--- a snapshot
+-- the contract of the making of a snapshot, by its answer
 abbrev pub SnapshotSays : (List ℕ → ℕ) → WriterState → (cache after : CacheState) → Life → Life
     → Result (WriterState × Tail) Error → Type 0
 SnapshotSays sum w cache after old new result =
@@ -434,13 +446,13 @@ with_snapshot was writer t = record was {
   snapshots = was.snapshots ++ Some t ∷ [];
 }
 
--- there was no memory for a snapshot, or its name: nothing was done
+-- memory for a snapshot, or for its name, was refused, and nothing was done
 abbrev pub HadNoRoomFor : Error → SessionState → SessionState → (cache after : CacheState) → Life
     → Life → Type 0
 HadNoRoomFor e was now cache after old new =
     (e ≡ OutOfMemory) × (now ≡ was) × (new ≡ old) × (after ≡ cache)
 
--- a snapshot by a session with a writer that appends
+-- a snapshot by a session with this writer, which appends, by the reply
 abbrev pub TakesSnapshot : (List ℕ → ℕ) → WriterState → (was now : SessionState)
     → (cache after : CacheState) → Life → Life → Reply → Type 0
 TakesSnapshot sum w was now cache after old new (Taken index) =
@@ -452,7 +464,8 @@ TakesSnapshot sum w was now cache after old new (Fault e) =
     ⊎ HadNoRoomFor e was now cache after old new
 TakesSnapshot sum w was now cache after old new _ = ⊥
 
--- a try to make a snapshot for which nothing is written: `Nothing` if a full page is buffered
+-- a try to make a snapshot for which nothing is written, by the reply: it is `Nothing` exactly if a
+-- full page is buffered
 abbrev pub TakesTriedSnapshot : WriterState → (was now : SessionState) → Reply → Type 0
 TakesTriedSnapshot w was now (Taken index) =
     (length w.tip < w.page_size) × (index ≡ length was.snapshots)
@@ -461,7 +474,7 @@ TakesTriedSnapshot w was now Nothing = (w.page_size ≤ length w.tip) × (now �
 TakesTriedSnapshot w was now (Fault e) = (e ≡ OutOfMemory) × (now ≡ was)
 TakesTriedSnapshot w was now _ = ⊥
 
--- a seal, which ends the writer
+-- the contract of a seal, which ends the writer, by its answer
 abbrev pub SealSays : (List ℕ → ℕ) → WriterState → (cache after : CacheState) → Life → Life
     → Result (Tail × StartedSync) Error → Type 0
 SealSays sum w cache after old new result =
@@ -477,7 +490,7 @@ sealed_with was t sync = record was {
   snapshots = was.snapshots ++ Some t ∷ [];
 }
 
--- a seal by a session with a writer that appends
+-- a seal by a session with this writer, which appends, by the reply
 abbrev pub SealsSession : (List ℕ → ℕ) → WriterState → (was now : SessionState)
     → (cache after : CacheState) → Life → Life → Reply → Type 0
 SealsSession sum w was now cache after old new (Sealed index sync) =
@@ -488,15 +501,15 @@ SealsSession sum w was now cache after old new (Fault e) =
     ⊎ HadNoRoomFor e was now cache after old new
 SealsSession sum w was now cache after old new _ = ⊥
 
--- a step that needs a writer that appends, by whether the session is in recovery, and its writer.
--- If there is no such writer, the step is turned away, and then `turned` holds
+-- a step that needs a writer that appends, by the session's phase and writer. If there is no such
+-- writer, the step is turned away, and then `turned` holds.
 abbrev pub IfAppending : (recovering : Bool) → Option WriterState → Reply → (turned : Type 0)
     → (WriterState → Type 0) → Type 0
 IfAppending recovering None reply turned goes = (reply ≡ Closed) × turned
 IfAppending true (Some w) reply turned goes = (reply ≡ NotAppending) × turned
 IfAppending false (Some w) reply turned goes = goes w
 
--- the three such steps: a snapshot, a try to make one, and a seal
+-- a snapshot by a session, by its phase, its writer and the reply
 abbrev pub DidSnapshot : (List ℕ → ℕ) → (was now : SessionState) → (cache after : CacheState)
     → Life → Life → Reply → Type 0
 DidSnapshot sum was now cache after old new reply =
@@ -504,11 +517,14 @@ DidSnapshot sum was now cache after old new reply =
     IfAppending was.recovering was.writer reply turned (λ w.
     TakesSnapshot sum w was now cache after old new reply)
 
+-- a try to make a snapshot for which nothing is written, by a session's phase, its writer and the
+-- reply
 abbrev pub DidTrySnapshot : (was now : SessionState) → Reply → Type 0
 DidTrySnapshot was now reply =
     IfAppending was.recovering was.writer reply (now ≡ was) (λ w.
     TakesTriedSnapshot w was now reply)
 
+-- a seal by a session, by its phase, its writer and the reply
 abbrev pub DidSeal : (List ℕ → ℕ) → (was now : SessionState) → (cache after : CacheState) → Life
     → Life → Reply → Type 0
 DidSeal sum was now cache after old new reply =
@@ -526,7 +542,7 @@ DidSnap sum (Some t) cache after offset len old new reply =
 
 -- ---- steps of replays
 
--- the beginning of a replay, with a buffer of this size
+-- the contract of the beginning of a replay with a buffer of this size, by its answer
 abbrev pub ReplaySays : (List ℕ → ℕ) → WriterState → (buffer_size : ℕ) → (cache after : CacheState)
     → Life → Life → Result (WriterState × ReplayState) Error → Type 0
 ReplaySays sum w buffer_size cache after old new result =
@@ -534,7 +550,7 @@ ReplaySays sum w buffer_size cache after old new result =
     Says (ReplayGoes sum w buffer_size after old new result) (Owes sum w all cache after old new)
     (ReplayCosts w buffer_size cache after old new result)
 
--- there was no memory for a replay: nothing was done
+-- memory for a replay was refused, and nothing was done
 pub record HadNoRoomForReplay (e : Error) (w : WriterState) (now : Option WriterState)
     (replays more : List (Option ReplayState)) (cache after : CacheState) (old new : Life)
     : Type 0 where
@@ -544,7 +560,7 @@ pub record HadNoRoomForReplay (e : Error) (w : WriterState) (now : Option Writer
   pub cached : after ≡ cache
   pub life : new ≡ old
 
--- the beginning of a replay by a session with this writer, or none, and these replays
+-- the beginning of a replay by a session, by its writer, its replays and the reply
 abbrev pub TakesReplay : (List ℕ → ℕ) → (was now : Option WriterState)
     → (replays more : List (Option ReplayState)) → (buffer_size : ℕ) → (cache after : CacheState)
     → Life → Life → Reply → Type 0
@@ -566,7 +582,8 @@ EnsuresOf sum r q count old new (Answer answer) = Ensures sum r count q old new 
 EnsuresOf sum r q count old new (Fault e) = Ensures sum r count q old new (Err e)
 EnsuresOf sum r q count old new _ = ⊥
 
--- all of such a step: if the bytes were at hand, the device isn't asked
+-- a step that asks the replay r for so many bytes at hand: its reply is as `EnsuresOf` has it, and
+-- if they were at hand the device isn't asked
 pub record EnsureSays (sum : List ℕ → ℕ) (r q : ReplayState) (count : ℕ) (old new : Life)
     (reply : Reply) : Type 0 where
   pub ensures : EnsuresOf sum r q count old new reply
@@ -663,7 +680,7 @@ pub record LeavesWriterState (was now : Option WriterState) (names more : List �
   pub writer : now ≡ was
   pub given : more ≡ names
 
--- a step of either phase, by a session with this writer, or none, and these names
+-- a step that a writer takes in either phase, by the writer, the names and the reply
 abbrev pub TakenBy : (List ℕ → ℕ) → Step → (was now : Option WriterState) → (names more : List ℕ)
     → (cache after : CacheState) → Life → Life → Reply → Type 0
 TakenBy sum (Append bytes) was now names more cache after old new reply =

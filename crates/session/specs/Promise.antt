@@ -29,25 +29,25 @@ use Rattle.session.specs.Others.{IsNewTo}
 
 -- ---- the way back
 
--- d is the disk at a moment between these two states of a life, or at one of them
+-- d is the disk at a moment of a life between these two states of it, or at one of them
 abbrev pub IsMoment : Life → Life → Disk → Type 0
 IsMoment old new d =
     (before after : List Disk) × (new ≡ life_after (life_after old before) after)
     × (d ≡ (life_after old before).present)
 
--- a crash of d: a new life begins with an image of d (what a crash may leave), all of it durable
+-- a crash of d: a new life begins with an image of d (a possible post-crash state), all of it
+-- durable
 pub record HasCrashed (d e : Disk) : Type 0 where
   pub image : IsImage d e.readable
   pub durable : IsDurable e
 
--- a crash of d; if it is to be fair, which is to leave chance aside, no checksum collides in the
--- image that it left
+-- a crash of d that left e. If it is fair, no checksum collides in the image that it left.
 pub record Crashes (sum : List ℕ → ℕ) (P : ℕ) (fair : Bool) (d e : Disk) : Type 0 where
   pub crashed : HasCrashed d e
   pub free : fair ≡ true → IsDistinct sum P d e.readable
 
 -- a recovery began over d and came to the moment m: it was cut short there, or m is what it left
--- when it answered, Ok or with an error. Where it is fair, all of d was durable.
+-- when it answered, Ok or with an error. If it is fair, all of d was durable.
 pub record Attempts (sum : List ℕ → ℕ) (P : ℕ) (fair : Bool) (d m : Disk) : Type 0 where
   pub old : Life
   pub new : Life
@@ -58,8 +58,7 @@ pub record Attempts (sum : List ℕ → ℕ) (P : ℕ) (fair : Bool) (d m : Disk
   pub only : LeavesText sum P old new
   pub durable : fair ≡ true → IsDurable d
 
--- a recovery over d answered Ok: this is the content that it gave. Where it is fair, all of d was
--- durable.
+-- a recovery over d answered Ok, and gave this content. If it is fair, all of d was durable.
 pub record HasRecovered (sum : List ℕ → ℕ) (P : ℕ) (fair : Bool) (d : Disk)
     (given : List ℕ) : Type 0 where
   pub old : Life
@@ -75,7 +74,8 @@ pub record HasRecovered (sum : List ℕ → ℕ) (P : ℕ) (fair : Bool) (d : Di
   pub durable : fair ≡ true → IsDurable d
 
 -- crashes and recoveries in any order and number, of which the last answered Ok and gave this
--- content
+-- content. If they are fair, no checksum collided in what each crash left, and each recovery began
+-- with all durable, as after a crash.
 pub data ComesBack (sum : List ℕ → ℕ) (P : ℕ) (fair : Bool) : Disk → List ℕ → Type 0 where
   recovered : (d : Disk) (given : List ℕ) → HasRecovered sum P fair d given
       → ComesBack sum P fair d given
@@ -84,7 +84,7 @@ pub data ComesBack (sum : List ℕ → ℕ) (P : ℕ) (fair : Bool) : Disk → L
   attempted : (d : Disk) (given : List ℕ) (m : Disk) → Attempts sum P fair d m
       → ComesBack sum P fair m given → ComesBack sum P fair d given
 
--- what comes back from m comes back from d
+-- whatever comes back from m comes back from d too
 abbrev pub LeadsTo : (List ℕ → ℕ) → (P : ℕ) → (fair : Bool) → Disk → Disk → Type 0
 LeadsTo sum P fair d m =
     (given : List ℕ) → ComesBack sum P fair m given → ComesBack sum P fair d given
@@ -93,9 +93,10 @@ LeadsTo sum P fair d m =
 abbrev pub IsPrefixOf : List ℕ → List ℕ → Type 0
 IsPrefixOf given content = given ≡ take (length given) content
 
--- whatever comes back begins with the content's first `floor` bytes, its durable prefix. If no
--- checksum collided in what each crash left, and each recovery began with all durable, as after a
--- crash, then what comes back is a prefix of the content, or of the other
+-- whatever comes back begins with the content's first `floor` bytes, its durable prefix. If all
+-- crashes and recoveries were fair, that is no checksum collided in what each crash left, and each
+-- recovery began with all durable, as after a crash, then what comes back is a prefix of the
+-- content, or of the other.
 pub record Survives (sum : List ℕ → ℕ) (P : ℕ) (content other : List ℕ) (floor : ℕ)
     (d : Disk) : Type 0 where
   pub kept : (fair : Bool) (given : List ℕ) → ComesBack sum P fair d given
@@ -106,10 +107,10 @@ pub record Survives (sum : List ℕ → ℕ) (P : ℕ) (content other : List ℕ
 -- ---- a run
 
 -- a run of steps with these replies, through its moments: each reply is exact; and what comes back
--- from between two steps, from any moment of one, or from the end, keeps what stood then. The
--- contents are the fold of the accepted steps. The floor is what the last sync or truncate that
--- answered Ok made durable, or a started sync that has completed, except for what a truncate was
--- asked to cut since
+-- from between two steps, from any moment of one, or from the end, keeps what stood then
+-- (`Survives`). The contents are the fold of the accepted steps. The floor is what the last sync or
+-- truncate that answered Ok made durable, or a started sync that has completed, except for what a
+-- truncate was asked to cut since.
 abbrev pub EachStepIsExact : (List ℕ → ℕ) → (P : ℕ) → List Step → List Reply → Disk → List Disk
     → RunState → RunState → Type 0
 EachStepIsExact sum P [] [] from moments s after =
@@ -124,8 +125,9 @@ EachStepIsExact sum P (step ∷ steps) (reply ∷ replies) from moments s after 
 EachStepIsExact sum P [] (reply ∷ replies) from moments s after = ⊥
 EachStepIsExact sum P (step ∷ steps) [] from moments s after = ⊥
 
--- a run, moment by moment. At its end the session stands for what the replies say, so another run
--- may follow
+-- a run is exact: its moments are all those that it added to the blob's life, they and its replies
+-- are as `EachStepIsExact` has it, and at its end the session stands for what the replies leave, so
+-- another run may follow
 pub record RunIsExact (sum : List ℕ → ℕ) (P : ℕ) (steps : List Step) (now : SessionState)
     (old new : Life) (earlier replies : List Reply) (before : RunState) : Type 0 where
   pub added : List Reply
@@ -183,7 +185,8 @@ pub record IsBegun (sum : List ℕ → ℕ) (cache : CacheState) (capacity : ℕ
       let given = text sum P old.present.readable in
       Represents sum P now (fresh P (adjusted capacity P) given) new.present
 
--- a recovery that begins a session, by its answer
+-- a recovery that begins a session, by its answer: at Ok as `IsBegun` has it; or an error as the
+-- recovery has it
 abbrev pub BeginsBy : (List ℕ → ℕ) → CacheState → (capacity : ℕ) → Life → Life
     → Result SessionState Error → Type 0
 BeginsBy sum cache capacity old new (Ok now) = IsBegun sum cache capacity old new now
@@ -220,14 +223,16 @@ IsPrefixOfEither sum P d given =
     (was : SessionState) (s : RunState) → Represents sum P was s d
     → IsPrefixOf given s.content ⊎ IsPrefixOf given s.otherwise
 
--- what a recovery gave back, by what a session stood for over d as the recovery began
+-- what a recovery gave back, by whatever a session stood for over d as the recovery began: it
+-- begins with that floor; and if all was durable then, it is a prefix of one of the two contents
 pub record GivesBack (sum : List ℕ → ℕ) (P : ℕ) (d : Disk) : Type 0 where
   pub recovered : RecoversFrom sum P d
   pub floor : BeginsWithFloor sum P d (text sum P d.readable)
   pub content : IsDurable d → IsPrefixOfEither sum P d (text sum P d.readable)
 
--- what a recovery gave back of what a crash left, by what a session stood for over d as the crash
--- came
+-- what a recovery gave back of what a crash left, by whatever a session stood for over d as the
+-- crash came: it begins with that floor; and if no checksum collides in what the crash left, it is
+-- a prefix of one of the two contents
 pub record GivesBackLeft (sum : List ℕ → ℕ) (P : ℕ) (d : Disk) (left : List ℕ) : Type 0 where
   pub floor : BeginsWithFloor sum P d (text sum P left)
   pub content : IsDistinct sum P d left → IsPrefixOfEither sum P d (text sum P left)
@@ -237,8 +242,8 @@ abbrev pub LeadsOn : (List ℕ → ℕ) → (P : ℕ) → (d : Disk) → (left :
 LeadsOn sum P d left m =
     (fair : Bool) → (fair ≡ true → IsDistinct sum P d left) → LeadsTo sum P fair d m
 
--- what a session stands for with this writer, where every image (what a crash may leave) keeps the
--- first `floor` bytes of the writer's content
+-- what a session stands for that begins with this writer, if every image (a possible post-crash
+-- state) keeps the first `floor` bytes of the writer's content
 abbrev pub opened : WriterState → (floor : ℕ) → List ℕ → RunState
 opened w floor readable = record {
   has_writer = true;
@@ -256,7 +261,7 @@ opened w floor readable = record {
 }
 
 -- a session that begins with this writer stands for its content, over each blob on which the writer
--- is sound (its invariant holds)
+-- is sound
 abbrev pub RepresentsWhereSound : (List ℕ → ℕ) → WriterState → Type 0
 RepresentsWhereSound sum w =
     (d : Disk) (floor : ℕ) → IsSound sum w d → HoldsWithin w
@@ -273,8 +278,9 @@ RefusesLeft sum cache capacity old left e new =
     (mid : Life) × HasCrashed old.present mid.present × (mid.present.readable ≡ left)
     × Recovers sum cache capacity mid new (Err e)
 
--- what a recovery answers: the session that begins, by the answer; and what came back, by what a
--- session stood for as the call began
+-- a recovery that begins a session, by its answer: at Ok the session is sound and new to the cache,
+-- and stands for what was recovered; and what came back is so by whatever a session stood for as
+-- the call began. A capacity whose rounding passes its type is always refused.
 pub record BeginGoes (sum : List ℕ → ℕ) (cache after : CacheState) (capacity : ℕ) (old new : Life)
     (result : Result SessionState Error) : Type 0 where
   pub begins : BeginsBy sum cache capacity old new result
@@ -284,7 +290,8 @@ pub record BeginGoes (sum : List ℕ → ℕ) (cache after : CacheState) (capaci
   pub apart : IfOk result (IsNewTo cache)
   pub gives : OnOk result (GivesBack sum cache.page_size old.present)
 
--- what holds at each moment of a recovery, whatever it answers
+-- what holds whatever a recovery answers: each of its moments is one of an attempt, a fresh cache
+-- is fresh, and what could be read of the blobs on the cache still can be
 pub record OwesBeginning (sum : List ℕ → ℕ) (P : ℕ) (cache after : CacheState) (old new : Life)
     : Type 0 where
   pub attempts : AttemptsThrough sum P old new
@@ -292,8 +299,9 @@ pub record OwesBeginning (sum : List ℕ → ℕ) (P : ℕ) (cache after : Cache
   -- what can be read with the same cache can be read on
   pub others : LeavesReads cache after
 
--- what a crash and a recovery after it answer: the session stands for what the crash left, or one
--- of the two was refused
+-- a crash and a recovery after it, by the answer: the session is sound and stands for what the
+-- crash left, which came back as `GivesBackLeft` has it; or memory for the crash was refused, and
+-- nothing changed; or the recovery was refused, and the session is closed
 pub record CrashGoes (sum : List ℕ → ℕ) (was now : SessionState) (cache after : CacheState)
     (capacity : ℕ) (left : List ℕ) (old new : History) (result : Result (Unit {0}) Error)
     : Type 0 where
@@ -301,8 +309,8 @@ pub record CrashGoes (sum : List ℕ → ℕ) (was now : SessionState) (cache af
       let s = fresh P (adjusted capacity P) (text sum P left) in
       OnOk result (Represents sum P now s (life_of new).present)
   pub steps : OnOk result (IsSoundSession sum now (life_of new).present)
-  -- what came back begins with the floor (durable prefix) of the moment of the crash; and chance
-  -- aside (no checksum collides) it is a prefix of a content of that moment
+  -- what came back begins with the floor (durable prefix) of the moment of the crash; and if no
+  -- checksum collides it is a prefix of a content of that moment
   pub gives : OnOk result (GivesBackLeft sum cache.page_size (life_of old).present left)
   -- the crash was refused, and nothing changed; or the recovery was, and the session is closed
   pub refused : IfErr result (λ e.

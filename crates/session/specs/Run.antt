@@ -57,6 +57,7 @@ pub record RunReplay : Type 0 where
   pub hand : ℕ
   pub batch : ℕ
 
+-- a standing: what contracts know about a session, by its steps and replies alone
 pub record RunState : Type 0 where
   pub has_writer : Bool
   -- the recovery hasn't ended
@@ -81,21 +82,22 @@ pub record RunState : Type 0 where
   -- the replays, the oldest first; none in the place of one that was let go, or forgotten
   pub replays : List (Option RunReplay)
 
--- so many bytes more fit the buffer
+-- whether so many bytes more fit the buffer
 abbrev pub fits_buffer : RunState → ℕ → Bool
 fits_buffer s more = nat_le (s.buffered + more) s.capacity
 
--- how many bytes are buffered after so many more: if they don't fit, whole pages of P bytes are
--- written
+-- how many bytes are buffered after so many more: all if they fit; otherwise the whole pages of P
+-- bytes were written, and what is after the last full page stays
 abbrev pub buffered_after : (P : ℕ) → RunState → ℕ → ℕ
 buffered_after P s more = if fits_buffer s more then s.buffered + more else (s.buffered + more) % P
 
--- whether all is written after an append of these bytes
+-- whether all is written after an append of these bytes: one of no bytes changes nothing
 abbrev pub written_after : List ℕ → Bool → Bool
 written_after [] written = written
 written_after (byte ∷ bytes) written = false
 
--- the started sync that is awaited after so many bytes more: if they don't fit, it was waited for
+-- the started sync that is awaited after so many bytes more: the same if they fit the buffer;
+-- otherwise none, since the writer has waited for it
 abbrev pub awaited_after : RunState → ℕ → Option ℕ
 awaited_after s more = if fits_buffer s more then s.awaited else None
 
@@ -109,7 +111,7 @@ appended P bytes s = record s {
   awaited = awaited_after s (length bytes);
 }
 
--- the standing with all of the content durable
+-- the standing after a sync, with all of the content durable: the floor is all of it
 abbrev pub after_sync : (P : ℕ) → RunState → RunState
 after_sync P s = record s {
   floor = length s.content;
@@ -129,7 +131,7 @@ starting P (Named name) s = record s {
   covers = (name, length s.content) ∷ s.covers;
 }
 
--- the standing with only the first n bytes of the content, all of them durable
+-- the standing after a truncate, with only the first n bytes of the content, all of them durable
 abbrev pub truncated : (P n : ℕ) → RunState → RunState
 truncated P n s =
     let content = take n s.content in
@@ -142,7 +144,7 @@ truncated P n s =
       awaited = None;
     }
 
--- the standing with one snapshot more, of all of the content
+-- the standing with one snapshot more, of all of the content as it is
 abbrev pub noted : RunState → RunState
 noted s = record s { snapshots = s.snapshots ++ Some s.content ∷ [] }
 
@@ -199,7 +201,7 @@ forgetting s = record s { replays = map (λ r. None) s.replays }
 abbrev pub after_wait : RunState → RunState
 after_wait s = record s { awaited = None }
 
--- whether a sync has something to do
+-- whether a sync has something to do, by the standing
 abbrev pub needs_sync : RunState → Bool
 needs_sync s = not s.written || is_some s.awaited
 
@@ -214,6 +216,8 @@ raised_floor d [] floor = floor
 raised_floor d (c ∷ covers) floor =
     raised_floor d covers (if is_complete d c.0 then max c.1 floor else floor)
 
+-- the standing with its floor raised to what each started sync that has completed by this disk
+-- covers
 abbrev pub raised : Disk → RunState → RunState
 raised d s = record s { floor = raised_floor d s.covers s.floor }
 
@@ -228,15 +232,15 @@ lowered n s = record s {
   covers = map (λ c. (c.0, min n c.1)) s.covers;
 }
 
--- the standing as a step begins: bytes that a truncate is to cut aren't kept from then on, and the
--- replays are forgotten
+-- the standing as a step begins: for a truncate the floor and the covers are lowered to what it
+-- keeps, and the replays are forgotten
 abbrev pub at_step : Step → RunState → RunState
 at_step (Truncate n) s = if s.has_writer && s.recovering then forgetting (lowered n s) else s
 at_step step s = s
 
 -- ---- steps that are turned away
 
--- the session was given this name
+-- whether the session was given this name
 abbrev pub has_name : RunState → ℕ → Bool
 has_name s name = list_any (λ c. nat_eq c.0 name) s.covers
 
@@ -253,7 +257,7 @@ has_snapshot_at s index = is_some (numbered s.snapshots index)
 abbrev pub snapshot_at : RunState → ℕ → List ℕ
 snapshot_at s index = elim (numbered s.snapshots index) [ None ↦ [] | Some content ↦ content ]
 
--- there is a replay of this number
+-- whether there is a replay of this number
 abbrev pub has_replay_at : RunState → ℕ → Bool
 has_replay_at s index = is_some (numbered s.replays index)
 
@@ -274,14 +278,14 @@ in_order_from offset (range ∷ ranges) =
 abbrev pub fit_together : List (ℕ × ℕ) → Bool
 fit_together ranges = in_order_from 0 ranges && nat_lt (sum_by (λ range. range.1) ranges) (2 ^ 64)
 
--- the reply to a step that needs a writer that appends, where there is no such writer
+-- the reply to a step that needs a writer that appends, if there is no such writer
 abbrev pub unless_appending : RunState → Option Reply
 unless_appending s =
     if s.has_writer then (if s.recovering then Some NotAppending else None) else Some Closed
 
--- the reply, where the session has not what the step needs: a writer, one in recovery, one whose
--- recovery has ended, a name that it was given, a snapshot, or a replay; or where one call can't
--- take the ranges
+-- the reply to a step that can't be taken, since the session hasn't what the step needs: a writer,
+-- one in recovery, one whose recovery has ended, a name that it was given, a snapshot, or a replay;
+-- or since one call can't take the ranges. None for any other step.
 abbrev pub turned_away : Step → RunState → Option Reply
 turned_away (WaitSync name) s = if has_name s name then None else Some NoSuch
 turned_away (Truncate n) s =
@@ -312,8 +316,8 @@ abbrev pub IsSlice : List ℕ → (offset len : ℕ) → List ℕ → Type 0
 IsSlice content offset len bytes =
     (offset + len ≤ length content) × (bytes ≡ take len (drop offset content))
 
--- the bytes of a content from an offset on, as many as there are and at most so many. A read of
--- zero bytes may be at any offset, and any other only before the end
+-- the bytes of a content from an offset on, as many as there are and at most so many. A read of no
+-- bytes may be at any offset, and any other only before the end.
 abbrev pub SlicesUpTo : List ℕ → (offset len : ℕ) → List ℕ → Type 0
 SlicesUpTo content offset len bytes =
     ((len ≡ 0) ⊎ (offset < length content)) × (bytes ≡ take len (drop offset content))
@@ -329,7 +333,7 @@ abbrev pub RiseBelow : (from end : ℕ) → List ℕ → Type 0
 RiseBelow from end [] = Unit {0}
 RiseBelow from end (n ∷ ns) = (from ≤ n) × (n < end) × RiseBelow (n + 1) end ns
 
--- the numbers of some of these ranges, rising; of all ranges where one isn't within the content
+-- the numbers of some of these ranges, rising; of all of them if one isn't within the content
 abbrev pub NumbersSome : List ℕ → (ranges : List (ℕ × ℕ)) → List ℕ → Type 0
 NumbersSome content ranges numbers =
     RiseBelow 0 (length ranges) numbers
@@ -341,8 +345,8 @@ pub record HasFetched (was now : RunReplay) : Type 0 where
   pub more : was.hand ≤ now.hand
   pub within : now.hand ≤ length now.content - now.position
 
--- whether so many bytes are at hand; if not, all the bytes that are left are at hand. No more bytes
--- are fetched than are asked for, except for the rest of a batch
+-- a replay was asked for so many bytes at hand, and the answer is whether they are; if not, all
+-- that is left is at hand. No more is fetched than is asked for, except for the rest of a batch.
 pub record HasEnsured (was : RunReplay) (count : ℕ) (answer : Bool) (now : RunReplay) :
     Type 0 where
   pub fetched : HasFetched was now
@@ -358,15 +362,15 @@ passed count r = record r {
   hand = r.hand - count;
 }
 
--- what starting a sync answers: where all is written, the sync that is awaited, if one is, and else
--- a new one, whose name is its number
+-- what starting a sync answers: if all is written, that all is durable or the sync that is awaited;
+-- otherwise a new sync, whose name is its number
 abbrev pub answer_of_start : RunState → Disk → StartedSync
 answer_of_start s from =
     if s.written
     then elim s.awaited [ None ↦ AllDone | Some name ↦ Named name ]
     else Named (length from.started)
 
--- what sealing answers: where all is written, `Done`, since all is durable then, and else a new
+-- what sealing answers: `Done` if all is written, since all is durable then, and otherwise a new
 -- started sync
 abbrev pub sealed_by : RunState → Disk → StartedSync
 sealed_by s from = if s.written then AllDone else Named (length from.started)
@@ -441,7 +445,7 @@ Accepts sum P step reply from to s after = ⊥
 
 -- ---- steps that are refused
 
--- the errors that a step may answer, and when
+-- the errors that a step may answer, and when: a line of the table `faults`
 pub record StepFaults : Type 1 where
   -- those of the device calls that it may make
   pub device : List Error
@@ -457,8 +461,10 @@ pub record StepFaults : Type 1 where
 abbrev pub no_faults : StepFaults
 no_faults = record { device = []; overflow = ⊥; end = ⊥; memory = ⊥ }
 
--- the table of the errors of each step, in pages of P bytes; for ranges, the first that can't be
--- read decides
+-- the errors that each step may answer, and when, in one table, in pages of P bytes: those of the
+-- device calls that it may make, `OffsetOverflow` if it passes the greatest number,
+-- `BlobInsufficientLength` if it passes the end, `OutOfMemory` if it may ask for memory. For
+-- ranges, the first that can't be read decides.
 abbrev pub faults : (P : ℕ) → Step → RunState → StepFaults
 faults P (Append bytes) s = record no_faults {
   device = WriteFailed ∷ SyncFailed ∷ [];
@@ -552,7 +558,9 @@ abbrev pub AwaitedSyncFailed : Option ℕ → Disk → Type 0
 AwaitedSyncFailed None d = ⊥
 AwaitedSyncFailed (Some name) d = had_failed d.started name ≡ true
 
--- why a step may answer this error
+-- why a step may answer this error. An error of the device comes only if the step may make a call
+-- of its kind and one failed in the step's own moments, or if the sync that the step waits for had
+-- failed.
 abbrev pub HasCause : (P : ℕ) → Step → RunState → Disk → Disk → Error → Type 0
 HasCause P step s from to ReadFailed =
     Contains (faults P step s).device ReadFailed × HasFailed ReadFailed from to
@@ -568,7 +576,7 @@ HasCause P step s from to BlobInsufficientLength = (faults P step s).end
 HasCause P step s from to OutOfMemory = (faults P step s).memory
 HasCause P step s from to e = ⊥
 
--- the content that the step would have left
+-- the content that a step would leave if it were done
 abbrev pub content_after : Step → List ℕ → List ℕ
 content_after (Append bytes) content = content ++ bytes.items
 content_after (Owned bytes) content = content ++ bytes.items
@@ -581,7 +589,9 @@ content_after step content = content
 abbrev pub HadNoRoom : Error → Disk → Disk → RunState → RunState → Type 0
 HadNoRoom e from to s after = (e ≡ OutOfMemory) × (to ≡ from) × (after ≡ s)
 
--- the standing after a refused step: a call that takes the writer ends it
+-- the standing after a refused step. A step that takes the writer ends it and leaves two contents
+-- possible, of which a truncate's second is the shorter one. Any other step leaves the standing as
+-- it was, except that a refused `ensure` may leave more bytes at hand.
 abbrev pub RefusesStep : Step → Error → Disk → Disk → RunState → RunState → Type 0
 RefusesStep (Append bytes) e from to s after = after ≡ ended (s.content ++ bytes.items) s
 RefusesStep (Owned bytes) e from to s after = after ≡ ended (s.content ++ bytes.items) s
@@ -616,7 +626,8 @@ FaultsComeFirst P step reply s =
     ((faults P step s).overflow → reply ≡ Fault OffsetOverflow)
     × ((faults P step s).end → reply ≡ Fault BlobInsufficientLength)
 
--- a step's reply, and the standing after it
+-- a step's reply, and the standing after it: the step is turned away, refused for a cause, or
+-- accepted
 abbrev pub AnswersStep : (List ℕ → ℕ) → (P : ℕ) → Step → Reply → Disk → Disk → RunState → RunState
     → Type 0
 AnswersStep sum P step reply from to s after = elim (turned_away step s) [
@@ -636,11 +647,13 @@ abbrev pub needs_no_device : Option RunReplay → (count : ℕ) → Bool
 needs_no_device None count = true
 needs_no_device (Some r) count = nat_le count r.hand || nat_le r.whole (r.position + r.hand)
 
--- a wait makes one call if a started sync is awaited, and else none
+-- the use of a wait: one call if a started sync is awaited, and none otherwise
 abbrev pub use_of_wait : Option ℕ → DeviceUse
 use_of_wait None = Leaves
 use_of_wait (Some name) = Changes 1
 
+-- what each step does to the disk at most, in one table, by the standing as it begins and for pages
+-- of P bytes
 abbrev pub use_of_step : (P : ℕ) → Step → RunState → DeviceUse
 use_of_step P (Append bytes) s = if fits_buffer s (length bytes.items) then Leaves else Changes 3
 use_of_step P (Owned bytes) s = if fits_buffer s (length bytes.items) then Leaves else Changes 3
@@ -671,26 +684,31 @@ use_of_step P (DropSnapshot index) s = Leaves
 use_of_step P (DropReplay index) s = Leaves
 use_of_step P Seal s = if s.written then use_of_wait s.awaited else Changes 3
 
--- the last of some moments
+-- the last of a step's moments, or the disk before them if there is none
 abbrev pub last : Disk → List Disk → Disk
 last d [] = d
 last d (e ∷ es) = last e es
 
+-- what a step did to the disk is within its use: `Leaves` has no moment, at those of `Looks` the
+-- disk is the same except for its log, and `Changes` adds at most so many calls to the log
 abbrev pub UsesDevice : DeviceUse → Disk → List Disk → Type 0
 UsesDevice Leaves from moments = moments ≡ []
 UsesDevice Looks from moments = Each (SameButLog from) moments
 UsesDevice (Changes most) from moments = length (last from moments).log ≤ length from.log + most
 
--- the other content that a crash in a step may leave
+-- the other of the two contents that a crash in a step may leave: the one that the step would leave
+-- if it were done, or, without a writer, the standing's own
 abbrev pub other_content : Step → RunState → List ℕ
 other_content step s = if s.has_writer then content_after step s.content else s.otherwise
 
--- each started sync would keep what it covers, once it completed
+-- each started sync would keep what it covers of the content, once it has completed
 abbrev pub AllCover : (List ℕ → ℕ) → (P : ℕ) → List ℕ → (covers : List (ℕ × ℕ)) → Disk → Type 0
 AllCover sum P content covers d = All (λ c. WouldKeep sum P content c.0 c.1 d) covers
 
--- one step: its reply, what it did to the disk, and what a crash leaves at each of its moments, and
--- would leave once a started sync completed, by what stands as it begins
+-- one step: its reply, what it did to the disk, and what a crash leaves at each of its moments, by
+-- what stood as it began: every image keeps the floor and would keep what a started sync covers,
+-- once that has completed; and if no checksum collides it has a prefix of the content before or of
+-- the one after
 pub record Did (sum : List ℕ → ℕ) (P : ℕ) (step : Step) (reply : Reply) (from : Disk)
     (moments : List Disk) (before after : RunState) : Type 0 where
   pub answer : AnswersStep sum P step reply from (last from moments) before after
@@ -719,9 +737,9 @@ Ran sum P (step ∷ steps) [] from moments s after = ⊥
 
 -- ---- what a session has
 
--- a session as contracts see it: the names of its syncs, in order, and its snapshots and replays,
--- the oldest first, with none in the place of one that was let go, or of a replay that was
--- forgotten
+-- a session as contracts see it: its writer and its phase; the names of its syncs, in order; and
+-- its snapshots and replays, the oldest first, with none in the place of one that was let go, or of
+-- a replay that was forgotten
 pub record SessionState : Type 0 where
   pub writer : Option WriterState
   pub recovering : Bool
@@ -739,7 +757,7 @@ pending_in Clean = None
 pending_in Dirty = None
 pending_in (Pending name) = Some name
 
--- a writer stands for a content, and for what is buffered of it
+-- a writer stands for this content, and for what the standing says is buffered and written of it
 pub record WriterRepresents (P : ℕ) (w : WriterState) (s : RunState) (d : Disk) : Type 0 where
   pub page_size : w.page_size ≡ P
   pub has_writer : s.has_writer ≡ true
@@ -756,7 +774,7 @@ abbrev pub WriterFits : (P : ℕ) → Option WriterState → RunState → Disk �
 WriterFits P None s d = s.has_writer ≡ false
 WriterFits P (Some w) s d = WriterRepresents P w s d
 
--- the names of a session are those of the standing's started syncs
+-- the names of a session are just those of the standing's started syncs
 abbrev pub NamesFit : List ℕ → (covers : List (ℕ × ℕ)) → Type 0
 NamesFit names covers =
     (name : ℕ) → list_any (λ n. nat_eq n name) names ≡ list_any (λ c. nat_eq c.0 name) covers
@@ -771,11 +789,11 @@ replay_in_run readable r = record {
   batch = r.batch * r.tail.page_size;
 }
 
--- what a session stands for over this disk, in pages of P bytes. Every image (what a crash may
--- leave) keeps the floor (the durable prefix), and would keep what a started sync covers once that
--- sync completed. Chance aside (no checksum collides), an image's text, which is what a recovery
--- keeps, is a prefix of one of the two contents. Each snapshot and each replay has the bytes that
--- the standing has for it.
+-- what a session stands for over this disk, in pages of P bytes. Every image (a possible post-crash
+-- state) keeps the floor (the durable prefix), and would keep what a started sync covers once that
+-- sync has completed. If no checksum collides, an image's text, which is what a recovery keeps, is
+-- a prefix of one of the two contents. Each snapshot and each replay has the bytes that the
+-- standing has for it.
 pub record Represents (sum : List ℕ → ℕ) (P : ℕ) (session : SessionState) (s : RunState)
     (d : Disk) : Type 0 where
   pub fits : WriterFits P session.writer s d
@@ -814,9 +832,9 @@ IsReplayIn sum writer d None = Unit {0}
 IsReplayIn sum writer d (Some r) =
     IsReplayOf sum r (logical_bytes r.tail d.readable) d × IsBelow writer r.tail
 
--- a session may take steps. The syncs that it was given may be waited for, its snapshots can be
--- read and its replays go on, even if the writer is gone. A writer in recovery, which may cut its
--- blob, has no snapshot
+-- a session may take steps: its writer, if it has one, is sound over the blob; the syncs that it
+-- was given may be waited for; and its snapshots can be read and its replays go on, even if the
+-- writer is gone. A writer in recovery, which may cut its blob, has no snapshot.
 pub record IsSoundSession (sum : List ℕ → ℕ) (session : SessionState) (d : Disk) : Type 0 where
   pub writer : HasSoundWriter sum session.writer d
   pub starts : (session.names ≡ []) ⊎ StartsCanBeAwaited d
@@ -830,13 +848,15 @@ abbrev pub FitsWriter : Option WriterState → CacheState → Disk → Type 0
 FitsWriter None cache d = Unit {0}
 FitsWriter (Some w) cache d = CanRead (tail_of w) cache d
 
--- the cache fits the session: the writer, and each snapshot that wasn't let go, can be read with it
+-- the cache fits the session: the writer can be read with it, and so can each snapshot that wasn't
+-- let go
 pub record CacheFits (session : SessionState) (cache : CacheState) (d : Disk) : Type 0 where
   pub writer : FitsWriter session.writer cache d
   pub snapshots : All (λ o. IfSome o (λ t. CanRead t cache d)) session.snapshots
 
--- a session may take steps over its blob with this cache, which holds nothing of blobs that are
--- still to come
+-- a session may take steps over its blob with this cache: it is sound, the cache fits it, and the
+-- cache holds nothing of blobs that are still to come. A run asks for this, and gives it back
+-- whatever it answers.
 pub record IsSessionReady (sum : List ℕ → ℕ) (session : SessionState) (cache : CacheState)
     (d : Disk) : Type 0 where
   pub steps : IsSoundSession sum session d
@@ -875,7 +895,7 @@ pub record RunsAlways (sum : List ℕ → ℕ) (steps : List Step) (was now : Se
   pub runs : (P : ℕ) (before : RunState) → Represents sum P was before old.present
       → Runs sum P steps added now old new before
 
--- there was no memory for the replies: no step was taken
+-- memory for the replies was refused: no step was taken
 pub record TookNone (e : Error) (was now : SessionState) (cache after : CacheState) (old new : Life)
     (earlier replies : List Reply) : Type 0 where
   pub cause : e ≡ OutOfMemory

@@ -16,7 +16,7 @@ use Rattle.page.specs.Geometry.{adjusted}
 -- a recovery within a limit that begins a session, by its answer: if one begins, no more was to go
 -- than is allowed. If more would go, the answer is that number, the blob was only looked at, and no
 -- device call failed. After an error the blob was only looked at, unless no more was to go than is
--- allowed
+-- allowed.
 abbrev pub BeginsWithin : (List ℕ → ℕ) → CacheState → (capacity allowed : ℕ) → Life → Life
     → Result SessionState Refusal → Type 0
 BeginsWithin sum cache capacity allowed old new (Ok now) =

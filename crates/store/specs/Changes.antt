@@ -9,10 +9,11 @@ use Rattle.std.specs.Int.{w16, to_be_bytes, from_be_bytes}
 use Rattle.std.specs.Ordering.{nat_cmp}
 use Rattle.journal.specs.Frame.{IsPrefix}
 
--- a map from keys to values, both of them bytes
+-- a key or a value
 abbrev pub Bytes : Type 0
 Bytes = List ℕ
 
+-- a finite map from keys to values
 abbrev pub ByteMap : Type 0
 ByteMap = FinMap (slice_cmp nat_cmp) Bytes
 
@@ -35,16 +36,16 @@ delete_record key = to_be_bytes w16 65535 ++ key
 abbrev pub mark_of : Bytes → ℕ
 mark_of bytes = from_be_bytes w16 (take 2 bytes)
 
--- whether that number is the one of a delete
+-- whether the number in the first two bytes of a record is the one of a delete
 abbrev pub has_delete_mark : Bytes → Bool
 has_delete_mark bytes = mark_of bytes == 65535
 
--- the key of a change
+-- the key of the change that a record is
 abbrev pub key_of : Bytes → Bytes
 key_of change =
     if has_delete_mark change then drop 2 change else take (mark_of change) (drop 2 change)
 
--- what a change gives its key: a put its value, and a delete none
+-- what the change that a record is gives its key: a put its value, and a delete none
 abbrev pub given : Bytes → Option Bytes
 given change =
     if has_delete_mark change then None else Some (drop (mark_of change) (drop 2 change))
@@ -53,20 +54,20 @@ given change =
 abbrev pub IsPut : Bytes → Type 0
 IsPut bytes = (mark_of bytes < 65535) × (2 + mark_of bytes ≤ length bytes)
 
--- a record is a delete
+-- a record is a delete: its first two bytes have the number of one
 abbrev pub IsDelete : Bytes → Type 0
 IsDelete bytes = (2 ≤ length bytes) × (mark_of bytes ≡ 65535)
 
--- a record is a change
+-- a record is a change: a put or a delete
 abbrev pub IsChange : Bytes → Type 0
 IsChange bytes = IsPut bytes ⊎ IsDelete bytes
 
--- each of these records is a change
+-- each of these records is a change: a put or a delete
 abbrev pub AreChanges : List Bytes → Type 0
 AreChanges [] = Unit {0}
 AreChanges (bytes ∷ records) = IsChange bytes × AreChanges records
 
--- one of these records is no change
+-- one of these records is no change: neither a put nor a delete
 abbrev pub HasForeign : List Bytes → Type 0
 HasForeign records =
     (i : ℕ) × (i < length records) × (IsChange (get_or records i []) → ⊥)
@@ -78,7 +79,7 @@ abbrev pub updated : ByteMap → (key : Bytes) → Option Bytes → ByteMap
 updated map key (Some value) = insert map key value
 updated map key None = remove map key
 
--- the map after these changes
+-- the map after these changes, one after another
 abbrev pub after_changes : ByteMap → List Bytes → ByteMap
 after_changes map [] = map
 after_changes map (change ∷ changes) =

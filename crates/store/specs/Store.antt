@@ -34,8 +34,8 @@ pub record StoreState : Type 0 where
 abbrev pub changes_of : (own : List ℕ → ℕ) → StoreState → Life → List Bytes
 changes_of own s life = records_in own s.journal life
 
--- a store between two calls: its map is what its changes make, chance aside a crash leaves only the
--- first of them, and its cache serves other blobs too
+-- a store between two calls: its journal can be called, its map is what its changes make, a crash,
+-- if no checksum collides, leaves a prefix of them, and its cache is fresh
 pub record IsStore (sum own : List ℕ → ℕ) (s : StoreState) (cache : CacheState) (life : Life)
     : Type 0 where
   pub journal : IsJournal sum s.journal cache life
@@ -64,9 +64,10 @@ KeepsChanges sum own P old new =
     (changes : List Bytes) → AreCommitted sum own P changes old.present
     → Through (AreCommitted sum own P changes) old new
 
--- a call that the journal took: it left what the journal's call leaves (`only` of it: chance aside
--- a crash at any moment since the call began leaves only the first of these changes); and what was
--- committed is so at each of these moments, also now that the call has ended
+-- a call that the journal took, whatever it answers: it left what the journal's call leaves (`only`
+-- of it: a crash at any moment since the call began, if no checksum collides, leaves a prefix of
+-- these changes); and what was committed is so at each of these moments, and still now that the
+-- call has ended
 pub record KeepsStore (sum own : List ℕ → ℕ) (w : WriterState) (changes : List Bytes)
     (cache after : CacheState) (old new : Life) : Type 0 where
   pub journal : JournalCallLeaves sum own w changes cache after old new
@@ -81,7 +82,8 @@ ChangeLeaves sum own s change cache after old new =
     ((new ≡ old) × (after ≡ cache))
     ⊎ KeepsStore sum own s.journal (changes_of own s old ++ change ∷ []) cache after old new
 
--- what a commit leaves, whatever it answers
+-- what a commit leaves, whatever it answers: what the journal's commit leaves, and what was
+-- committed still is
 abbrev pub CommitLeaves : (sum own : List ℕ → ℕ) → StoreState → (cache after : CacheState)
     → Life → Life → Type 0
 CommitLeaves sum own s cache after old new =
@@ -99,8 +101,8 @@ pub record HasChanged (sum own : List ℕ → ℕ) (s : StoreState) (change : By
   pub changes : changes_of own now new ≡ changes_of own s old ++ change ∷ []
   pub stays : ChangesStay sum own s.journal.page_size old.present new.present
 
--- a put or a delete, by its answer. At an error memory was refused before anything was done, or the
--- journal refused the record
+-- a put or a delete, by its answer: at Ok the change was made. At an error memory was refused
+-- before anything was done, or the journal refused the record.
 abbrev pub ChangeGoes : (sum own : List ℕ → ℕ) → StoreState → (change : Bytes) → ByteMap
     → (cache after : CacheState) → Life → Life → Result StoreState Error → Type 0
 ChangeGoes sum own s change made cache after old new (Ok now) =
@@ -119,14 +121,15 @@ pub record HasCommitted (sum own : List ℕ → ℕ) (s : StoreState) (after : C
   pub committed : AreCommitted sum own now.journal.page_size (changes_of own now new) new.present
   pub stays : ChangesStay sum own s.journal.page_size old.present new.present
 
--- a commit, by its answer; an error is one of the journal's commit
+-- a commit, by its answer: at Ok all changes are committed; an error is one of the journal's commit
 abbrev pub CommitStoreGoes : (sum own : List ℕ → ℕ) → StoreState → CacheState → Life → Life
     → Result StoreState Error → Type 0
 CommitStoreGoes sum own s after old new (Ok now) = HasCommitted sum own s after old new now
 CommitStoreGoes sum own s after old new (Err e) =
     CommitGoes sum own s.journal after old new (Err e)
 
--- whatever changes were committed, a map comes back with them, of all that its journal has
+-- whatever changes were committed, a map comes back with them, as `MapComesBack` has it, of all
+-- changes that its journal has
 abbrev pub BringsBack : (sum own : List ℕ → ℕ) → ℕ → Disk → Life → StoreState → Type 0
 BringsBack sum own P was new now =
     (committed : List Bytes) → AreCommitted sum own P committed was
@@ -167,9 +170,9 @@ OpenStoreGoes sum own cache after capacity old new (Err (Refused e)) =
 
 -- a store came back after a crash that left this image: its changes are the records of the image,
 -- and are committed now. They begin with all that were committed as the crash came, whatever the
--- checksum functions (`back`). Where no checksum collides in the image they are the first of all
--- that were made (`only`); so of what was made each key has what its last committed change gave, or
--- a later one (`values`)
+-- checksum functions (`back`). If no checksum collides in the image they are a prefix of all that
+-- were made (`only`); so of what was made each key has what its last committed change gave, or a
+-- later one (`values`).
 pub record HasComeBack (sum own : List ℕ → ℕ) (P : ℕ) (after : CacheState) (was : Disk)
     (image : List ℕ) (new : Life) (now : StoreState) : Type 0 where
   pub store : IsStore sum own now after new
@@ -210,14 +213,14 @@ pub record CrashAndOpenLeaves (sum own : List ℕ → ℕ) (cache after : CacheS
 
 -- ---- what each call asks of the device
 
--- a put or a delete makes at most three device calls, one of which waits for a commit that was
--- started; and none where the record fits what the journal may hold back
+-- what a put or a delete costs: at most three device calls, one of which waits for a commit that
+-- was started; and none if the record fits what the journal may hold back
 pub record ChangeCosts (own : List ℕ → ℕ) (w : WriterState) (change : Bytes) (old new : Life)
     : Type 0 where
   pub calls : AsksAtMost (wait_calls w.sync + 2) old new
   pub buffered : length w.tip + length (frame own change) ≤ w.capacity → new ≡ old
 
--- a commit makes at most two device calls, and none where all is durable
+-- what a commit costs: at most two device calls, and none if all is durable
 pub record CommitCosts (w : WriterState) (old new : Life) : Type 0 where
   pub calls : AsksAtMost (sync_calls w) old new
   pub idle : sync_calls w ≡ 0 → new ≡ old

@@ -15,12 +15,12 @@ use Rattle.crash.specs.Full.{AreFull}
 use Rattle.crash.specs.Built.{kept_len}
 use Rattle.crash.specs.Kept.{AllOnly}
 
--- the content: the payloads of the pages below the tip joined, and then the tip
+-- the content of a writer: the payloads of the pages below the tip joined, and then the tip
 abbrev pub content : WriterState → List ℕ → List ℕ
 content w readable = stored w.page_size w.full_pages readable ++ w.tip
 
 -- the tip's page, in a blob that has some of its bytes: it is the last page, and its value, under
--- slot f, is a beginning of the tip
+-- slot f, is a prefix of the tip and shorter than P
 pub record HasTipPage (sum : List ℕ → ℕ) (P full : ℕ) (tip readable : List ℕ) (f : ActiveChecksum) :
     Type 0 where
   pub size : length readable ≡ (full + 1) * (P + 12)
@@ -33,8 +33,8 @@ pub record HasTipPage (sum : List ℕ → ℕ) (P full : ℕ) (tip readable : Li
   pub slot :
       slot_of P f.slot (take (P + 12) (drop (full * (P + 12)) readable)) ≡ slot_bytes f.len f.crc
 
--- the tip's page as the blob has it: the blob ends before that page, or the page's value is a
--- beginning of the tip
+-- the tip's page as the blob has it: nothing of the tip was written, and the blob ends with the
+-- last full page; or the blob ends with the tip's page, whose value is a prefix of the tip
 abbrev pub TipPage : (List ℕ → ℕ) → (P full : ℕ) (tip readable : List ℕ) → Option ActiveChecksum →
     Type 0
 TipPage sum P full tip readable None = length readable ≡ full * (P + 12)
@@ -50,7 +50,8 @@ pub record IsPending (name : ℕ) (d : Disk) : Type 0 where
   pub others : (other : ℕ) (c : ℕ × List ℕ) → slice_get (coverings d) other ≡ Some c
       → (c.0 ≤ d.settled) ⊎ (other ≡ name)
 
--- a clean state means that nothing is unsynced; the other states ask nothing of the disk here
+-- what a state says of the disk: a clean one means that nothing is unsynced, and the others ask
+-- nothing
 abbrev pub StateFits : Disk → SyncState → Type 0
 StateFits d Clean = (d.since ≡ []) × (d.base ≡ d.readable)
 StateFits d Dirty = Unit {0}
@@ -62,7 +63,10 @@ StartsFit d Clean = AllSettled d
 StartsFit d Dirty = AllSettled d
 StartsFit d (Pending name) = IsPending name d
 
--- the writer fits what is readable: its full pages are in the blob, and of the tip what was written
+-- the writer fits what is readable. The page size is from 1 to 2 ^ 16 - 1. What is readable is the
+-- last whole state: the full pages, and after them of the tip what was written. A clean writer has
+-- nothing unsynced, each started sync is settled except that of a pending writer, and what a flush
+-- repeats is a part of the tip.
 pub record IsWrittenOut (sum : List ℕ → ℕ) (w : WriterState) (d : Disk) : Type 0 where
   pub some : 0 < w.page_size
   pub small : w.page_size < 2 ^ 16
@@ -97,8 +101,9 @@ MayFlush Clean flushed durable = durable ≡ flushed
 MayFlush Dirty flushed durable = Unit {0}
 MayFlush (Pending name) flushed durable = ⊥
 
--- how far the content is durable: the floor, which counts its first bytes, and a slot of the tip's
--- page
+-- how far the content is durable: so many of its first bytes, which are the floor, are guarded, and
+-- so is a slot of the tip's page. The base's text goes no further. The bytes lie below the writer's
+-- tip; or they go up to it, and the slot is the one that a flush will repeat.
 pub record IsSafe (sum : List ℕ → ℕ) (w : WriterState) (content : List ℕ) (d : Disk) : Type 0 where
   pub floor : ℕ
   pub tip : Option ActiveChecksum
@@ -124,7 +129,7 @@ pub record Consistency (sum : List ℕ → ℕ) (w : WriterState) (d : Disk) : T
   pub vouched : IsVouched sum w.page_size d
   pub good : IsGoodFrom sum w.page_size w.full_pages d
 
--- each page below the tip verifies, and is full
+-- each page below the tip verifies and is full
 abbrev pub IsIntact : (List ℕ → ℕ) → WriterState → Disk → Type 0
 IsIntact sum w d = AreFull sum w.page_size (take w.full_pages (pages w.page_size d.readable))
 
@@ -137,16 +142,18 @@ pub record Soundness (sum : List ℕ → ℕ) (w : WriterState) (d : Disk) : Typ
   pub good : IsGoodFrom sum w.page_size w.full_pages d
   pub full : IsIntact sum w d
 
--- the words for `Consistency` and `Soundness` in contracts: a caller hands them from call to call,
--- and has no need to see into them
+-- the writer is consistent with its blob, as `Consistency` has it. Contracts have this word: a
+-- caller hands it from call to call, and has no need to see into it.
 unfoldable pub IsConsistent : (List ℕ → ℕ) → WriterState → Disk → Type 0
 IsConsistent sum w d = Consistency sum w d
 
+-- the writer is sound, as `Soundness` has it: its invariant holds between it and its blob.
+-- Contracts have this word: a caller hands it from call to call, and has no need to see into it.
 unfoldable pub IsSound : (List ℕ → ℕ) → WriterState → Disk → Type 0
 IsSound sum w d = Soundness sum w d
 
--- each chance-free image, which is a possible state after a crash with no checksum collision, has
--- as its text a prefix of the writer's content
+-- each chance-free image, which is a possible post-crash state with no checksum collision, has as
+-- its text a prefix of the writer's content
 abbrev pub LeavesItsContent : (List ℕ → ℕ) → WriterState → Disk → Type 0
 LeavesItsContent sum w d =
     let held = content w d.readable in AllOnly sum w.page_size held held d

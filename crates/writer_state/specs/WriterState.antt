@@ -7,10 +7,11 @@ use Rattle.crash.specs.Built.{durable_after, rest_written}
 use Rattle.writer_state.specs.declared.sync_state.SyncState.{SyncState}
 use Rattle.writer_state.specs.declared.sync_state.SyncState.TheVariants.{Clean, Dirty, Pending}
 
--- a writer: its logical page size and its buffer's capacity in bytes, its blob's id in the cache,
--- how many full pages are in the blob, the tip (the bytes after those pages, which it buffers), and
--- whether all is synced. Of the page in which the tip begins it knows two slots: `flushed`, the one
--- that was written last, and `durable`, the one that was durable then.
+-- a writer as contracts see it: its logical page size in bytes, its blob's id in the cache, its
+-- buffer's capacity in bytes, how many full pages are in the blob, the tip (the bytes after those
+-- pages, which it buffers), and whether all is synced. Of the page in which the tip begins it knows
+-- two slots: `flushed`, the one that was written last, and `durable`, the one that was durable then
+-- and that a rewrite repeats.
 pub record WriterState : Type 0 where
   pub page_size : ℕ
   pub id : ℕ
@@ -21,12 +22,13 @@ pub record WriterState : Type 0 where
   pub durable : Option ActiveChecksum
   pub sync : SyncState
 
--- a write that is durable at once, of a blob in which nothing was unsynced, leaves nothing unsynced
+-- the state after a write: clean, if the write was durable at once and nothing was unsynced before
+-- it; dirty otherwise
 abbrev pub state_after_write : Bool → SyncState
 state_after_write true = Clean
 state_after_write false = Dirty
 
--- the state of a writer that started a sync, by what that answered
+-- the state of a writer that started a sync, by what the start answered
 abbrev pub started_state : StartedSync → SyncState
 started_state Done = Clean
 started_state (Named name) = Pending name
